@@ -1,0 +1,4 @@
+pub mod NamesLemmas
+pub mod NumeralLemmas
+pub mod FilesLemmas
+pub mod OutputLemmas

@@ -1,0 +1,5 @@
+pub mod Names
+pub mod Numeral
+pub mod Faults
+pub mod Files
+pub mod Output
