@@ -1,0 +1,15 @@
+-- lists
+pub mod EachLemmas
+pub mod AmongLemmas
+-- the machine: its steps, effects and memories, and what it keeps
+pub mod StepLemmas
+pub mod EffectLemmas
+pub mod MemoryLemmas
+pub mod ConflictSetLemmas
+pub mod ListedLemmas
+pub mod OrderLemmas
+pub mod ElementMatchLemmas
+pub mod ThinLemmas
+pub mod MachineLemmas
+-- expressions
+pub mod Written
