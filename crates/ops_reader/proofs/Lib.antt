@@ -1,0 +1,10 @@
+pub mod Phrases
+pub mod Sound
+pub mod Runs
+pub mod Complete
+pub mod Viable
+pub mod ExactLemmas
+pub mod CutLemmas
+pub mod WordLemmas
+pub mod ReadLemmas
+pub mod ShapeLemmas

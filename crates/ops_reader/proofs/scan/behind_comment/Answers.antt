@@ -1,0 +1,6 @@
+-- The text is the line and what is behind it.
+use Rattle.ops_reader.proofs.CutLemmas.{line_cut}
+use Rattle.ops_reader.proofs.scan.behind_comment.Goals as goal
+
+pub returns-clause-same : goal.returns-clause-same
+returns-clause-same c = cc (line_cut c.args.text.now, c.split_at.ensures.back)

@@ -1,0 +1,48 @@
+//! Laws of the definitions, each of which the functions' contracts cite.
+
+ghost use Rattle.ops_reader.specs.WordShapes.{HasShapeOfItsKind};
+ghost use Rattle.ops_reader.specs.Cut.{FallsIntoTokens};
+ghost use Rattle.ops_reader.specs.TokenRows.{AreAngleRows, AreNumberRows, AreEndRows};
+ghost use Rattle.ops_reader.specs.FormRows.{AreFormRows, AreRefusedRows};
+ghost use Rattle.std.specs.Prelude.{ℕ, List};
+ghost use Rattle.ops_text.specs.Names.{Names};
+ghost use Rattle.ops_reader.specs.declared.form.Form.{Form};
+ghost use Rattle.ops_reader.specs.Token.{Token};
+ghost use Rattle.ops_reader.specs.Exact.{ReadsFronts, ReadsTexts, HasOneReading};
+
+/// Tokens of texts that are easily read otherwise.
+pub fn token_rows()
+    ensures angles { AreAngleRows }
+    ensures numbers { AreNumberRows }
+    ensures ends { AreEndRows }
+{}
+
+/// Forms and names of texts, and texts that are refused.
+pub fn form_rows()
+    ensures forms { AreFormRows }
+    ensures refused { AreRefusedRows }
+{}
+
+/// Reading token by token goes on exactly as long as the tokens begin a text, and ends between two
+/// forms exactly where they are a text.
+pub fn reading_is_exact()
+    ensures fronts { (names : Names) (tokens : List Token) → ReadsFronts names tokens }
+    ensures texts { (names : Names) (tokens : List Token) (forms : List Form) (after : Names)
+        → ReadsTexts names tokens forms after }
+{}
+
+/// No text has two readings.
+pub fn text_has_one_reading()
+    ensures { (names : Names) (tokens : List Token) → HasOneReading names tokens }
+{}
+
+/// White space and comments vanish, a longest run of letters is a word, and what stands between
+/// bars is a symbol.
+pub fn text_falls_into_tokens()
+    ensures { FallsIntoTokens }
+{}
+
+/// Variables, integers and floating-point numbers are exactly the words of their shapes.
+pub fn words_have_the_shapes_of_their_kinds()
+    ensures { (word : List ℕ) → HasShapeOfItsKind word }
+{}

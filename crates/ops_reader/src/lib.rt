@@ -1,0 +1,25 @@
+//! Reads the text of a rule program into forms. It knows the grammar and nothing of classes,
+//! bindings or firings.
+#![tactic(auto)]
+
+mod byte;
+mod form;
+mod forms;
+pub mod laws;
+mod part;
+mod read;
+mod refusal;
+mod scan;
+mod step;
+mod take;
+#[cfg(test)]
+mod tests;
+mod token;
+mod word;
+
+pub use form::{
+    At, Form, FormAction, FormArg, FormCond, FormExpr, FormItem, FormOperand, FormTerm, Simple,
+};
+pub use forms::Forms;
+pub use read::read_forms;
+pub use refusal::FormsRefusal;
