@@ -1,0 +1,9 @@
+-- the match
+pub mod ListLemmas
+pub mod FilterLemmas
+pub mod UnfiredLemmas
+-- the firing
+pub mod PieceLemmas
+pub mod FiringLemmas
+pub mod LawfulLemmas
+pub mod CommitLemmas

@@ -1,0 +1,14 @@
+-- The lists so far are those that begin with an element so far.
+use Rattle.std.proofs.Common.{◌≡◌, ◌+◌, ◌*◌, take, length, false}
+use Rattle.rule_base.specs.ConflictSet.{tag_lists, tags_by}
+use Rattle.firing_core.proofs.instantiations.+tag_lists.Given as goal
+
+abbrev pub invariant-tag_lists_from-loop-element : goal.invariant-tag_lists_from-loop-element
+invariant-tag_lists_from-loop-element l =
+    l.lists.items ≡ tags_by false l.cond (take l.element-index l.memory) l.bindings (tag_lists l.rest l.memory)
+
+abbrev pub decreases-tag_lists : goal.decreases-tag_lists
+decreases-tag_lists l = 2 * length l.conds.now
+
+abbrev pub decreases-tag_lists_from : goal.decreases-tag_lists_from
+decreases-tag_lists_from l = 2 * length l.rest.now + 1

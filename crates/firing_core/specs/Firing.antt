@@ -1,0 +1,23 @@
+-- Firings: which choice may come next, and how a firing changes a core.
+use Rattle.std.specs.Prelude.{◌≡◌, true, false, Option, None, Some}
+use Rattle.rule_base.specs.declared.instantiation.Choice.{Choice}
+use Rattle.rule_base.specs.State.{IsUnfired}
+use Rattle.rule_base.specs.Step.{matches, step}
+use Rattle.rule_base.specs.Ending.{is_quiet}
+use Rattle.firing_core.specs.CoreState.{CoreState}
+
+-- the choice matches and has not fired, so that the run is not quiet
+pub record IsLeft (k : CoreState) (c : Choice) : Type 0 where
+  pub matching : matches k.program k.state.memory c ≡ true
+  pub unfired : IsUnfired k.state c
+  pub not_quiet : is_quiet k.program k.state ≡ false
+
+-- a choice that is left, or none where the run is quiet
+abbrev pub IsNext : CoreState → Option Choice → Type 0
+IsNext k None = is_quiet k.program k.state ≡ true
+IsNext k (Some c) = IsLeft k c
+
+-- the choice has fired: the state is one step further, and all else stays
+pub record Fires (old new : CoreState) (c : Choice) : Type 0 where
+  pub steps : step old.program old.state c ≡ Some new.state
+  pub stays : new ≡ record old { state = new.state }

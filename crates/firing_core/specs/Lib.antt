@@ -1,0 +1,11 @@
+-- what the public calls promise
+pub mod CoreState
+pub mod Lawful
+pub mod FinishedRun
+-- what the core's functions promise each other
+pub mod Unfired
+pub mod Firing
+pub mod Turn
+pub mod Reached
+pub mod Plan
+pub mod CoreFields

@@ -1,0 +1,159 @@
+//! The conflict set, found anew by plain filters over the whole memory.
+
+ghost use Rattle.std.specs.Prelude.{◌≡◌, ◌≤◌, [], ◌∷◌, ◌++◌, false, IfOk, OnOk, not, length, map};
+ghost use Rattle.rule_base.specs.Bindings.{no_bindings};
+ghost use Rattle.rule_base.specs.ConflictSet.{tags_by, tag_lists, instantiations, conflict_set};
+ghost use Rattle.firing_core.specs.Unfired.{is_unfired_in, first_unfired};
+
+use crate::acceptance::{Bindings, accepts, accepts_some};
+use ops_text::{OutOfMemory, Sequence};
+use rule_base::{Choice, Cond, Element, Entry, Program, Rule, Value};
+use std::alloc::Global;
+
+/// The first choice of the conflict set that no entry of the journal has, or none where each has
+/// fired. The instantiations of one rule are looked for at once, those of later rules only where all
+/// of its own fired before.
+pub fn first_unfired(
+    alloc: Global,
+    program: &Program,
+    memory: &[Element],
+    entries: &[Entry],
+) -> Result<Option<Choice>, OutOfMemory>
+    requires { length program.now.rules ≤ 4096 }
+    ensures { IfOk result
+        (λ found. found ≡ first_unfired entries.now (conflict_set program.now memory.now)) }
+{
+    let mut number = 0;
+    for rule in program.rules.as_slice() {
+        let found = first_unfired_of(alloc, number, rule, memory, entries)?;
+        if found.is_some() {
+            return Ok(found);
+        }
+        number += 1;
+    }
+    Ok(None)
+}
+
+/// The same among the instantiations of the rule with this number.
+fn first_unfired_of(
+    alloc: Global,
+    number: u32,
+    rule: &Rule,
+    memory: &[Element],
+    entries: &[Entry],
+) -> Result<Option<Choice>, OutOfMemory>
+    ensures { IfOk result
+        (λ found. found ≡
+        first_unfired entries.now (instantiations memory.now (number, rule.now))) }
+{
+    let bindings = unbound(alloc, rule.vars)?;
+    let lists = tag_lists(alloc, rule.conds.as_slice(), memory, bindings.as_slice())?;
+    for tags in lists.as_slice() {
+        if !has_fired(number, tags.as_slice(), entries) {
+            let tags = Sequence::from_vec(Vec::from_slice(alloc, tags.as_slice())?);
+            return Ok(Some(Choice { rule: number, tags }));
+        }
+    }
+    Ok(None)
+}
+
+/// Whether an entry of the journal has this rule with these tags.
+fn has_fired(number: u32, tags: &[u64], entries: &[Entry]) -> bool
+    ensures { not result ≡ is_unfired_in entries.now (record { rule = number; tags = tags.now }) }
+{
+    for entry in entries {
+        if number == entry.choice.rule && tags == entry.choice.tags.as_slice() {
+            return true;
+        }
+    }
+    false
+}
+
+/// No variable of so many has a value.
+pub fn unbound(alloc: Global, vars: u32) -> Result<Bindings, OutOfMemory>
+    ensures { IfOk result (λ bindings. bindings ≡ no_bindings vars) }
+{
+    let bindings = vec![in alloc; None; vars as usize]?;
+    Ok(Sequence::from_vec(bindings))
+}
+
+/// The lists of tags that the condition elements accept under these bindings.
+#[cycle(tag_lists)]
+fn tag_lists(
+    alloc: Global,
+    conds: &[Cond],
+    memory: &[Element],
+    bindings: &[Option<Value>],
+) -> Result<Vec<Sequence<u64>>, OutOfMemory>
+    ensures { IfOk result (λ lists. lists.items ≡ tag_lists conds.now memory.now bindings.now) }
+{
+    match conds.split_first() {
+        None => one_empty(alloc),
+        Some((cond, rest)) if cond.negated => {
+            if accepts_some(alloc, cond, bindings, memory)? {
+                Ok(Vec::new(alloc))
+            } else {
+                tag_lists(alloc, rest, memory, bindings)
+            }
+        }
+        Some((cond, rest)) => tag_lists_from(alloc, cond, rest, memory, bindings),
+    }
+}
+
+/// The lists that begin with the tag of an element that the positive condition element accepts, and
+/// go on as the rest of the condition elements do.
+#[cycle(tag_lists)]
+fn tag_lists_from(
+    alloc: Global,
+    cond: &Cond,
+    rest: &[Cond],
+    memory: &[Element],
+    bindings: &[Option<Value>],
+) -> Result<Vec<Sequence<u64>>, OutOfMemory>
+    ensures { IfOk result
+        (λ lists. lists.items ≡
+        tags_by false cond.now memory.now bindings.now (tag_lists rest.now memory.now)) }
+{
+    let mut lists = Vec::new(alloc);
+    for element in memory {
+        if let Some(after) = accepts(alloc, cond, bindings, element)? {
+            let following = tag_lists(alloc, rest, memory, after.as_slice())?;
+            put_first(alloc, element.tag, following.as_slice(), &mut lists)?;
+        }
+    }
+    Ok(lists)
+}
+
+/// The one list of no tags.
+fn one_empty(alloc: Global) -> Result<Vec<Sequence<u64>>, OutOfMemory>
+    ensures { IfOk result (λ lists. lists.items ≡ [] ∷ []) }
+{
+    let mut lists = Vec::new(alloc);
+    lists.push(Sequence::new(alloc))?;
+    Ok(lists)
+}
+
+/// Adds the lists, each with the tag before it.
+fn put_first(
+    alloc: Global,
+    tag: u64,
+    following: &[Sequence<u64>],
+    lists: &mut Vec<Sequence<u64>>,
+) -> Result<(), OutOfMemory>
+    ensures { OnOk result
+        (lists.new.items ≡ lists.old.items ++ map (λ tags. tag ∷ tags) following.now) }
+{
+    for tags in following {
+        lists.push(with_first(alloc, tag, tags.as_slice())?)?;
+    }
+    Ok(())
+}
+
+fn with_first(alloc: Global, tag: u64, tags: &[u64]) -> Result<Sequence<u64>, OutOfMemory>
+    ensures { IfOk result (λ all. all ≡ tag ∷ tags.now) }
+{
+    let mut all = Vec::with_capacity(alloc, tags.len() + 1)?;
+    all.push(tag)?;
+    all.extend_from_slice(tags)?;
+    Ok(Sequence::from_vec(all))
+}

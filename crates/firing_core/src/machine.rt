@@ -1,0 +1,176 @@
+//! The core: a program, the elements that a run begins with, and how far the run has come.
+
+ghost use Rattle.std.specs.Prelude.{◌≡◌, ◌<◌, ◌≤◌, ◌↔◌, true, IfOk, IsTrue, OnOk, OnErr};
+ghost use Rattle.rule_base.specs.Opening.{IsOpening};
+ghost use Rattle.rule_base.specs.Sound.{IsSound, sizes_of};
+ghost use Rattle.rule_base.specs.Thin.{is_thin};
+ghost use Rattle.rule_base.specs.State.{count, opening as opening_state};
+ghost use Rattle.rule_base.specs.Step.{may_fire};
+ghost use Rattle.firing_core.specs.CoreState.{core_at};
+ghost use Rattle.firing_core.specs.Lawful.{IsLawful};
+ghost use Rattle.firing_core.specs.Firing.{IsNext, Fires};
+ghost use Rattle.firing_core.specs.Plan.{Plans};
+
+use crate::copies::copied;
+use crate::evaluation::evaluate;
+use crate::instantiations::first_unfired;
+use crate::memory::{change, elements_at};
+use crate::planning::{Plan, planned};
+use ops_text::{OutOfMemory, Sequence};
+use rule_base::{Choice, Element, Entry, Program};
+use std::alloc::Global;
+use std::marker::Model;
+use std::sync::Arc;
+
+/// A run of the recognise-act machine that can go on. It keeps that its state is where its journal
+/// leads from its opening.
+#[derive(Drop)]
+pub struct Core {
+    program: Arc<Program>,
+    opening: Sequence<Element>,
+    budget: u64,
+    memory: Vec<Element>,
+    next: u64,
+    entries: Vec<Entry>,
+    halted: bool,
+}
+
+impl Model for Core {
+    ghost use Rattle.firing_core.specs.CoreState.{CoreState};
+    ghost use Rattle.rule_base.specs.contracts.expression.Operand as operand;
+    ghost use Rattle.std.specs.Coded.{codes};
+
+    ghost Value = { CoreState };
+
+    ghost coded = { Prim.hlevel (codes, operand.the_row.coded) };
+
+    ghost use Rattle.firing_core.specs.CoreFields.{core_in, HoldsLawful};
+
+    ghost view = { core_in };
+
+    ghost invariant = { HoldsLawful };
+}
+
+impl Core {
+    /// A core at the beginning of a run: its memory is the opening, and nothing has fired.
+    pub fn new(
+        alloc: Global,
+        program: Arc<Program>,
+        opening: &[Element],
+        budget: u64,
+    ) -> Result<Core, OutOfMemory>
+        requires sound { IsSound program.value }
+        requires thin { is_thin program.value ≡ true }
+        requires begins { IsOpening (sizes_of program.value.classes) opening.now }
+        requires some_budget { 1 ≤ budget }
+        requires small_budget { budget ≤ 4000000 }
+        ensures { IfOk result
+            (λ core. core ≡ core_at program.value opening.now budget (opening_state opening.now)) }
+    {
+        let memory = copied(alloc, opening)?;
+        let opening = Sequence::from_vec(copied(alloc, opening)?);
+        let next = opening.len() as u64 + 1;
+        Ok(Core {
+            program,
+            opening,
+            budget,
+            memory,
+            next,
+            entries: Vec::new(alloc),
+            halted: false,
+        })
+    }
+
+    /// The next time tag.
+    pub fn next(&self) -> u64
+        ensures { result ≡ self.now.state.next }
+    {
+        self.next
+    }
+
+    /// How many firings there were.
+    pub fn count(&self) -> u64
+        ensures value { result ≡ count self.now.state }
+        ensures lawful { IsLawful self.now }
+    {
+        self.entries.len() as u64
+    }
+
+    /// The elements of the working memory, in rising order of their tags.
+    pub fn memory(&self) -> &[Element]
+        ensures { result.now ≡ self.now.state.memory }
+    {
+        self.memory.as_slice()
+    }
+
+    /// The journal's entries, in the order of the firings.
+    pub fn entries(&self) -> &[Entry]
+        ensures { result.now ≡ self.now.state.entries }
+    {
+        self.entries.as_slice()
+    }
+
+    pub fn program(&self) -> &Arc<Program>
+        ensures { result.now.value ≡ self.now.program }
+    {
+        &self.program
+    }
+
+    /// Whether a firing has halted the run.
+    pub(crate) fn is_halted(&self) -> bool
+        ensures { result ≡ self.now.state.halted }
+    {
+        self.halted
+    }
+
+    /// Whether a further firing is within the budget.
+    pub(crate) fn has_budget(&self) -> bool
+        ensures fewer { IsTrue result ↔ (count self.now.state < self.now.budget) }
+        ensures within { count self.now.state ≤ self.now.budget }
+    {
+        self.count() < self.budget
+    }
+
+    /// The first choice of the conflict set that has not fired, or none where all have. It matches
+    /// every rule anew against the whole memory.
+    pub(crate) fn find_unfired(&self, alloc: Global) -> Result<Option<Choice>, OutOfMemory>
+        ensures { IfOk result (IsNext self.now) }
+    {
+        first_unfired(
+            alloc,
+            &self.program,
+            self.memory.as_slice(),
+            self.entries.as_slice(),
+        )
+    }
+
+    /// What the firing of a choice needs, made beforehand.
+    fn plan(&self, alloc: Global, choice: Choice) -> Result<Plan, OutOfMemory>
+        requires within { count self.now.state < self.now.budget }
+        requires may_fire { may_fire self.now.program self.now.state choice ≡ true }
+        ensures { IfOk result (Plans self.now choice) }
+    {
+        let rule = &self.program.rules.as_slice()[choice.rule as usize];
+        let elements = elements_at(alloc, self.memory.as_slice(), choice.tags.as_slice())?;
+        let delta = evaluate(alloc, rule, elements.as_slice())?;
+        planned(alloc, self.next, choice, delta)
+    }
+
+    /// Fires a choice: one step of the machine. After want of memory all is as before.
+    pub(crate) fn commit(&mut self, alloc: Global, choice: Choice) -> Result<(), OutOfMemory>
+        requires within { count self.old.state < self.old.budget }
+        requires may_fire { may_fire self.old.program self.old.state choice ≡ true }
+        ensures ok { OnOk result (Fires self.old self.new choice) }
+        ensures err { OnErr result (self.new ≡ self.old) }
+    {
+        let Plan { entry, gone, born } = self.plan(alloc, choice)?;
+        self.memory.reserve(born.len())?;
+        self.entries.reserve(1)?;
+        // From here on nothing fails.
+        self.next += born.len() as u64;
+        self.halted = self.halted || entry.halts;
+        change(&mut self.memory, gone.as_slice(), born.into_vec());
+        self.entries.push_reserved(entry);
+        Ok(())
+    }
+}
