@@ -1,0 +1,46 @@
+//! The program `ops`: it hands its words, the system's files and standard output to the command, and
+//! ends with the number of the status.
+#![tactic(auto)]
+
+ghost use Rattle.std.specs.Prelude.{◌≡◌};
+ghost use Rattle.ops.specs.Exit.{exit_number};
+
+use ops_command::{Status, run_without_threads};
+use ops_text::{FileShelf, OutSink};
+use std::process::ExitCode;
+use std::{env, io};
+
+fn exit_number(status: Status) -> u8
+    ensures { result ≡ exit_number status }
+{
+    match status {
+        Status::Quiet => 0,
+        Status::Usage { .. } => 2,
+        Status::Spent { .. } => 3,
+        Status::ReadFault { .. } => 5,
+        Status::WriteFault => 6,
+        Status::TooLong { .. } => 9,
+        Status::OutOfMemory => 10,
+        Status::NotBuilt { .. } => 12,
+    }
+}
+
+// The words after the program's name. None of them are a faulty command line, and so stand for words
+// that aren't UTF-8.
+fn words_after_name(rt: &HostRuntime) -> io::Result<Vec<String>> {
+    match env::args(rt) {
+        Ok(args) => Ok(args.skip(1).collect(rt.alloc())?),
+        Err(error) if error.kind() == io::ErrorKind::InvalidData => Ok(Vec::new(rt.alloc())),
+        Err(error) => Err(error),
+    }
+}
+
+fn main(rt: HostRuntime) -> ExitCode {
+    let Ok(words) = words_after_name(&rt) else {
+        return ExitCode::from(exit_number(Status::OutOfMemory));
+    };
+    let mut shelf = FileShelf::new(&rt);
+    let mut out = OutSink::new(io::writer(&rt));
+    let report = run_without_threads(rt.alloc(), &words, &mut shelf, &mut out);
+    ExitCode::from(exit_number(report.status))
+}

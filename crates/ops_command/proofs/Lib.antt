@@ -1,0 +1,10 @@
+pub mod NumberLemmas
+pub mod TurnsLemmas
+pub mod ListLemmas
+pub mod ClassesLemmas
+pub mod LeftSideLemmas
+pub mod RightSideLemmas
+pub mod CheckedLemmas
+pub mod ThinLemmas
+pub mod OpeningLemmas
+pub mod PlanLemmas

@@ -1,0 +1,89 @@
+//! The run of a program from its opening to its ending, and what is to be said of it.
+
+ghost use Rattle.std.specs.Prelude.{◌≡◌, ◌^◌, ◌<◌, true, length, IfOk};
+ghost use Rattle.rule_base.specs.Sound.{IsSound};
+ghost use Rattle.rule_base.specs.Thin.{is_thin};
+ghost use Rattle.firing_core.specs.CoreState.{choices_of};
+ghost use Rattle.ops_command.specs.Findings.{findings_of, of_run};
+ghost use Rattle.ops_command.specs.RunReport.{run_report};
+ghost use Rattle.ops_command.specs.Answer.{IsRunPlan};
+
+use crate::opening::opening_elements;
+use crate::plan::Plan;
+use crate::run_report::run_report;
+use crate::status::{Report, Status};
+use firing_core::{Core, Finished, run_alone};
+use ops_text::{Duplicate, OutOfMemory, Sequence, Symbols};
+use rule_base::{Choice, Element, Ending, Entry, Program};
+use std::alloc::Global;
+use std::sync::Arc;
+
+/// The most firings of a run.
+const BUDGET: u64 = 1_000_000;
+
+/// What is to be said of a program with these names: that it ran, and how.
+pub fn plan_run(alloc: Global, program: Program, symbols: &Symbols) -> Result<Plan, OutOfMemory>
+    requires sound { IsSound program }
+    requires thin { is_thin program ≡ true }
+    requires few_makes { length program.makes < 2 ^ 62 }
+    ensures { IfOk result
+        (λ plan. IsRunPlan program symbols.now (findings_of plan.report) plan.text.items plan.report.status) }
+{
+    let elements = opening_elements(alloc, &program)?;
+    let program = Arc::new(alloc, program)?;
+    let Finished { core, ending } = run_alone(alloc, program, elements.as_slice(), BUDGET)?;
+    match ending {
+        Ending::Quiet => plan_report(alloc, &core, symbols, Status::Quiet, "quiet"),
+        Ending::Spent { n } => plan_report(alloc, &core, symbols, Status::Spent { n }, "spent"),
+        // Thin programs neither halt nor fault.
+        Ending::Halted => unreachable!(),
+        Ending::Fault { .. } => unreachable!(),
+    }
+}
+
+// The report of a finished run, and its text, in which the word says how it ended.
+fn plan_report(
+    alloc: Global,
+    core: &Core,
+    symbols: &Symbols,
+    status: Status,
+    word: &str,
+) -> Result<Plan, OutOfMemory>
+    ensures status { IfOk result (λ plan. plan.report.status ≡ status) }
+    ensures found { IfOk result (λ plan. findings_of plan.report ≡ of_run core.now.state) }
+    ensures text { IfOk result
+        (λ plan. plan.text.items ≡ run_report symbols.now word.now core.now.state) }
+{
+    let memory = core.memory();
+    let entries = core.entries();
+    let text = run_report(alloc, symbols, word, entries, memory, core.next())?;
+    let report = Report {
+        status,
+        choices: choices_of(alloc, entries)?,
+        memory: copied(alloc, memory)?,
+        next: core.next(),
+    };
+    Ok(Plan { report, text })
+}
+
+// The choices that fired, in order.
+fn choices_of(alloc: Global, entries: &[Entry]) -> Result<Sequence<Choice>, OutOfMemory>
+    ensures { IfOk result (λ choices. choices ≡ choices_of entries.now) }
+{
+    let mut choices = Sequence::new(alloc);
+    for entry in entries {
+        choices.push(entry.choice.copy(alloc)?)?;
+    }
+    Ok(choices)
+}
+
+// Elements equal to these.
+fn copied(alloc: Global, elements: &[Element]) -> Result<Sequence<Element>, OutOfMemory>
+    ensures { IfOk result (λ copies. copies ≡ elements.now) }
+{
+    let mut copies = Sequence::new(alloc);
+    for element in elements {
+        copies.push(element.copy(alloc)?)?;
+    }
+    Ok(copies)
+}

@@ -1,0 +1,77 @@
+//! The report of a run: what its rules wrote, and a line about how it ended.
+
+ghost use Rattle.std.specs.Prelude.{◌≡◌, ◌++◌, length, decimal, OnOk, IfOk};
+ghost use Rattle.ops_command.specs.RunReport.{ends_line, whole_lines, written_text, summary_line};
+
+use crate::page::lay_out;
+use itoa::Buffer;
+use ops_text::{OutOfMemory, Symbols};
+use rule_base::{Element, Entry};
+use std::alloc::Global;
+
+/// Appends a number in decimal.
+pub fn put_decimal(number: u64, text: &mut Vec<u8>) -> Result<(), OutOfMemory>
+    ensures { OnOk result (text.new.items ≡ text.old.items ++ decimal number) }
+{
+    let mut buffer = Buffer::new();
+    text.extend_from_slice(buffer.format(number).as_bytes())
+}
+
+// Ends the last line of a text.
+fn end_line(text: &mut Vec<u8>) -> Result<(), OutOfMemory>
+    ensures { OnOk result (text.new.items ≡ whole_lines text.old.items) }
+{
+    if !ends_line(text.as_slice()) {
+        text.push(b'\n')?;
+    }
+    Ok(())
+}
+
+fn ends_line(text: &[u8]) -> bool
+    ensures { result ≡ ends_line text.now }
+{
+    match text.last() {
+        Some(byte) => *byte == b'\n',
+        None => true,
+    }
+}
+
+fn summary_line(
+    alloc: Global,
+    word: &str,
+    firings: u64,
+    elements: u64,
+    next: u64,
+) -> Result<Vec<u8>, OutOfMemory>
+    ensures { IfOk result (λ line. line.items ≡ summary_line word.now firings elements next) }
+{
+    let mut line = Vec::from_slice(alloc, b"; ")?;
+    line.extend_from_slice(word.as_bytes())?;
+    line.extend_from_slice(b", firings ")?;
+    put_decimal(firings, &mut line)?;
+    line.extend_from_slice(b", elements ")?;
+    put_decimal(elements, &mut line)?;
+    line.extend_from_slice(b", next ")?;
+    put_decimal(next, &mut line)?;
+    line.extend_from_slice(b"\n")?;
+    Ok(line)
+}
+
+/// The report of a run with these entries, this memory and this next tag. The word says how it ended.
+pub fn run_report(
+    alloc: Global,
+    symbols: &Symbols,
+    word: &str,
+    entries: &[Entry],
+    memory: &[Element],
+    next: u64,
+) -> Result<Vec<u8>, OutOfMemory>
+    ensures { IfOk result
+        (λ text. text.items ≡ whole_lines (written_text symbols.now entries.now) ++ summary_line word.now (length entries.now) (length memory.now) next) }
+{
+    let mut text = lay_out(alloc, entries, symbols)?;
+    end_line(&mut text)?;
+    let line = summary_line(alloc, word, entries.len() as u64, memory.len() as u64, next)?;
+    text.extend_from_slice(&line)?;
+    Ok(text)
+}
