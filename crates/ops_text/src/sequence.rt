@@ -1,7 +1,7 @@
 //! A vector that contracts see as the list of its elements, so that a value with such a field is
 //! plain data: two of them are equal where their elements are.
 
-ghost use Rattle.std.specs.Prelude.{◌≡◌, [], ◌∷◌, ◌++◌, ◌<◌, ◌↔◌, length, slice_get, IsTrue, OnOk, OnErr, OnSome};
+ghost use Rattle.std.specs.Prelude.{◌≡◌, [], ◌∷◌, ◌++◌, ◌<◌, ◌↔◌, length, slice_get, IsTrue, MatchOption, OnOk, OnErr, OnSome};
 ghost use Rattle.std.specs.Option.{option_copied};
 
 use crate::OutOfMemory;
@@ -66,6 +66,14 @@ impl<T> Sequence<T> {
         ensures { IsTrue result ↔ (self.now ≡ []) }
     {
         self.elements.is_empty()
+    }
+
+    /// Takes the last element away, if there is one.
+    pub fn pop(&mut self) -> Option<T>
+        ensures { MatchOption result ((self.old ≡ []) × (self.new ≡ []))
+            (λ last. self.old ≡ self.new ++ last ∷ []) }
+    {
+        self.elements.pop()
     }
 
     /// The element at a place that counts from 0, or none past the end.

@@ -277,5 +277,7 @@ fn a_copy_has_the_elements_in_order(rt: HostRuntime) -> Result<(), Fail> {
     let copies = copy.into_vec();
     assert_eq!(rt; copies.as_slice(), sequence.as_slice());
     assert_eq!(rt; Sequence::from_vec(copies).len(), 2);
+    assert_eq!(rt; sequence.pop(), Some((4, 6)));
+    assert_eq!(rt; sequence.len(), 1);
     Ok(())
 }
