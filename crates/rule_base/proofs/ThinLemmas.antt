@@ -1,6 +1,6 @@
 -- The right-hand side of a thin rule never fails.
-use Rattle.std.proofs.Common.{◌≡◌, ℕ, ◌+◌, List, [], ◌∷◌, Bool, true, false, ◌&&◌, Result, Ok, Err, is_ok, replicate, slice_set, refl}
-use Rattle.std.specs.List.{AllByRecursion, list_all}
+use Rattle.std.proofs.Common.{◌≡◌, ℕ, ◌+◌, List, [], ◌∷◌, Bool, true, false, Result, Ok, Err, is_ok, replicate, slice_set, refl}
+use Rattle.std.specs.List.{AllByRecursion}
 use Rattle.rule_base.specs.declared.value.Value.{Value}
 use Rattle.rule_base.specs.declared.element.Element.{Element}
 use Rattle.rule_base.specs.declared.action.Term.{Term}
@@ -16,7 +16,7 @@ use Rattle.rule_base.specs.Value.{nil}
 use Rattle.rule_base.specs.Bindings.{Bindings}
 use Rattle.rule_base.specs.Term.{after_sets, item_piece, item_pieces, term_value}
 use Rattle.rule_base.specs.Effect.{Progress, after_action, after_actions, beginning, effect, of_action}
-use Rattle.rule_base.specs.Thin.{is_thin_action, is_thin_cond, is_thin_item, is_thin_rule, is_thin_term}
+use Rattle.rule_base.specs.Thin.{is_thin_action, is_thin_item, is_thin_rule, is_thin_term}
 use Rattle.rule_base.proofs.EachLemmas.{Each-list_all}
 
 -- a step that gave something, and a next one that does so whatever it is given
@@ -59,11 +59,6 @@ actions_ok : (number : ℕ) (elements : List Element) (actions : List Action) (p
 actions_ok number elements [] p thin = refl
 actions_ok number elements (first ∷ actions) p thin = then_ok (of_action number (after_action elements first p)) (after_actions (number + 1) elements actions) (of_action_ok number (after_action elements first p) (action_ok elements first p thin.0)) (λ q. actions_ok (number + 1) elements actions q thin.1)
 
-second_holds : (a b : Bool) → (a && b) ≡ true → b ≡ true
-second_holds true b both = both
-second_holds false b both = absurd (let wrong : ⊥ = cc in wrong)
-
 pub effect-is_ok : (rule : Rule) (elements : List Element) → is_thin_rule rule ≡ true → is_ok (effect rule elements) ≡ true
 effect-is_ok rule elements thin =
-    let thin_actions = second_holds (list_all is_thin_cond rule.conds) (list_all is_thin_action rule.actions) thin in
-    then_ok (after_actions 1 elements rule.actions (beginning rule elements)) _ (actions_ok 1 elements rule.actions (beginning rule elements) (Each-list_all is_thin_action rule.actions thin_actions)) (λ p. refl)
+    then_ok (after_actions 1 elements rule.actions (beginning rule elements)) _ (actions_ok 1 elements rule.actions (beginning rule elements) (Each-list_all is_thin_action rule.actions thin)) (λ p. refl)

@@ -1,6 +1,7 @@
 -- values, working memory and bindings
 pub mod Chains
 pub mod Value
+pub mod Cases
 pub mod Predicate
 pub mod Memory
 pub mod Opening

@@ -1,12 +1,7 @@
--- Thin rules, a plain part of the language. No condition element is negated, a test binds a variable or asks
--- for an equal value, and the actions are make, remove and write of constants and variables.
-use Rattle.std.specs.Prelude.{ℕ, Bool, true, false, not, ◌&&◌}
+-- Thin rules, a plain part of the language: whatever their condition elements ask, the actions are make, remove and
+-- write of constants and variables.
+use Rattle.std.specs.Prelude.{ℕ, Bool, true, false}
 use Rattle.std.specs.List.{list_all}
-use Rattle.rule_base.specs.declared.condition.Pred.{Pred}
-use Rattle.rule_base.specs.declared.condition.Pred.TheVariants.{Eq, Ne, Lt, Le, Gt, Ge, Same}
-use Rattle.rule_base.specs.declared.condition.Test.{Test}
-use Rattle.rule_base.specs.declared.condition.Test.TheVariants as test
-use Rattle.rule_base.specs.declared.condition.Cond.{Cond}
 use Rattle.rule_base.specs.declared.action.Term.{Term}
 use Rattle.rule_base.specs.declared.action.Term.TheVariants as term
 use Rattle.rule_base.specs.declared.action.Item.{Item}
@@ -16,34 +11,20 @@ use Rattle.rule_base.specs.declared.action.Action.TheVariants as action
 use Rattle.rule_base.specs.declared.program.Rule.{Rule}
 use Rattle.rule_base.specs.declared.program.Program.{Program}
 
-abbrev pub is_equality : Pred → Bool
-is_equality Eq = true
-is_equality Ne = false
-is_equality Lt = false
-is_equality Le = false
-is_equality Gt = false
-is_equality Ge = false
-is_equality Same = false
-
-abbrev pub is_thin_test : Test → Bool
-is_thin_test (test.Bind attr var) = true
-is_thin_test (test.Cmp attr pred other) = is_equality pred
-is_thin_test (test.OneOf attr among) = false
-
-abbrev pub is_thin_cond : Cond → Bool
-is_thin_cond cond = not cond.negated && list_all is_thin_test cond.tests
-
+-- a constant or a variable
 abbrev pub is_thin_term : Term → Bool
 is_thin_term (term.Con value) = true
 is_thin_term (term.Var var) = true
 is_thin_term (term.Compute expression) = false
 
+-- a value
 abbrev pub is_thin_item : Item → Bool
 is_thin_item (item.Put put) = is_thin_term put
 is_thin_item item.Crlf = false
 is_thin_item (item.Tabto column) = false
 is_thin_item (item.Rjust width) = false
 
+-- a make, remove or write of these
 abbrev pub is_thin_action : Action → Bool
 is_thin_action (action.Make class size sets) = list_all (λ (set : ℕ × Term). is_thin_term set.1) sets
 is_thin_action (action.Modify at sets) = false
@@ -52,8 +33,9 @@ is_thin_action (action.Bind var term) = false
 is_thin_action (action.Write items) = list_all is_thin_item items
 is_thin_action action.Halt = false
 
+-- whether each action of the rule is thin
 abbrev pub is_thin_rule : Rule → Bool
-is_thin_rule rule = list_all is_thin_cond rule.conds && list_all is_thin_action rule.actions
+is_thin_rule rule = list_all is_thin_action rule.actions
 
 -- whether each rule of the program is thin
 abbrev pub is_thin : Program → Bool

@@ -4,6 +4,7 @@
 #![tactic(auto)]
 
 mod action;
+mod cases;
 mod change;
 mod condition;
 mod element;
@@ -14,11 +15,13 @@ mod instantiation;
 pub mod laws;
 mod lock;
 mod program;
+mod steps;
 #[cfg(test)]
 mod tests;
 mod value;
 
 pub use action::{Action, Item, Term};
+pub use cases::Cases;
 pub use change::{Change, Piece, Tagged};
 pub use condition::{Arg, Cond, Pred, Test};
 pub use element::Element;
@@ -27,4 +30,5 @@ pub use expression::{Expr, Op, Operand};
 pub use instantiation::{Candidate, Choice};
 pub use lock::{Busy, Mode};
 pub use program::{Class, Program, Rule};
+pub use steps::Steps;
 pub use value::Value;
