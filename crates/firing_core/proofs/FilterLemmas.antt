@@ -14,7 +14,8 @@ use Rattle.rule_base.specs.Bindings.{Bindings}
 use Rattle.rule_base.specs.Acceptance.{accepts}
 use Rattle.rule_base.specs.ConflictSet.{instantiations, tags_by, with_bindings}
 use Rattle.firing_core.specs.Unfired.{first_unfired, is_unfired_in}
-use Rattle.firing_core.proofs.ListLemmas.{drop_at_place, flat_map-take}
+use Rattle.element_tests.proofs.PlaceLemmas.{drop_at_place}
+use Rattle.firing_core.proofs.ListLemmas.{flat_map-take}
 
 -- the lists that begin with an element so far, and then those that begin with the next one
 pub tags_by-take : (cond : Cond) (memory : Memory) (bindings : Bindings) (next : Bindings → List (List ℕ)) (i : ℕ) (e : Element) → i < length memory → e ≡ get_or memory i e → tags_by false cond (take (i + 1) memory) bindings next ≡ tags_by false cond (take i memory) bindings next ++ map (λ (tags : List ℕ). e.tag ∷ tags) (with_bindings next (accepts cond bindings e))

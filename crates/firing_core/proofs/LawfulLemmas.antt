@@ -7,6 +7,7 @@ use Rattle.rule_base.specs.declared.program.Program.{Program}
 use Rattle.rule_base.specs.declared.program.Rule.{Rule}
 use Rattle.rule_base.specs.Memory.{HasSize, Memory, elements_at}
 use Rattle.rule_base.specs.Opening.{IsOpening}
+use Rattle.rule_base.specs.Bindings.{no_bindings}
 use Rattle.rule_base.specs.Sound.{IsSound, IsSoundRule, sizes_of}
 use Rattle.rule_base.specs.Thin.{is_thin, is_thin_rule}
 use Rattle.rule_base.specs.Effect.{Effect, effect}
@@ -20,6 +21,8 @@ use Rattle.rule_base.proofs.MachineLemmas.{Each-elements_at, IsKeepingStep-sound
 use Rattle.rule_base.proofs.StepLemmas.{IsStep-from_step, run-append}
 use Rattle.firing_core.specs.CoreState.{CoreState, choices_of}
 use Rattle.firing_core.specs.Lawful.{IsLawful}
+use Rattle.firing_core.specs.Matching.{MayMatch}
+use Rattle.firing_core.proofs.MatchingLemmas.{MayMatch-sound}
 
 pub IsLawful-opening : (program : Program) (elements : Memory) (budget : ℕ) → IsSound program → is_thin program ≡ true → IsOpening (sizes_of program.classes) elements → 1 ≤ budget → budget ≤ 4000000 → IsLawful (record { program = program; opening = elements; budget = budget; state = opening elements })
 IsLawful-opening program elements budget sound thin began some small = record {
@@ -63,6 +66,12 @@ born_fit k rule c done lawful within at is =
     let sound : IsSoundRule sizes rule = Each-slice_get (IsSoundRule sizes) k.program.rules c.rule rule lawful.sound.sound_rules at in
     let sized = IsSizedEffect-sound sizes rule (elements_at k.state.memory c.tags) done sound (Each-elements_at (HasSize sizes) k.state.memory c.tags lawful.keeps.elements.sized) is in
     omega (arith, length-born k.state.next done.changes, sized.few, sound.few_actions, lawful.next_is_low, lawful.small_budget)
+
+-- a rule of the program may be matched with elements of the memory
+pub rule_may_match : (k : CoreState) (rule : Rule) (c : Choice) → IsLawful k → slice_get k.program.rules c.rule ≡ Some rule → MayMatch rule.conds (elements_at k.state.memory c.tags) (no_bindings rule.vars)
+rule_may_match k rule c lawful at =
+    let sizes = sizes_of k.program.classes in
+    MayMatch-sound sizes rule (elements_at k.state.memory c.tags) (Each-slice_get (IsSoundRule sizes) k.program.rules c.rule rule lawful.sound.sound_rules at) (Each-elements_at (HasSize sizes) k.state.memory c.tags lawful.keeps.elements.sized)
 
 -- each rule of a thin program is thin
 pub thin_rule : (program : Program) (number : ℕ) (rule : Rule) → is_thin program ≡ true → slice_get program.rules number ≡ Some rule → is_thin_rule rule ≡ true

@@ -1,5 +1,6 @@
 -- the match
 pub mod ListLemmas
+pub mod MatchingLemmas
 pub mod FilterLemmas
 pub mod UnfiredLemmas
 -- the firing

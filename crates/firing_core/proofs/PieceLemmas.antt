@@ -6,7 +6,7 @@ use Rattle.rule_base.specs.declared.entry.FaultCause.{FaultCause}
 use Rattle.rule_base.specs.Chains.{◌>>=◌}
 use Rattle.rule_base.specs.Bindings.{Bindings}
 use Rattle.rule_base.specs.Term.{item_piece, item_pieces}
-use Rattle.firing_core.proofs.ListLemmas.{take_to_place}
+use Rattle.element_tests.proofs.PlaceLemmas.{take_to_place}
 
 -- pieces and one more, where there are any
 abbrev and_last : Result (List Piece) FaultCause → Piece → Result (List Piece) FaultCause

@@ -3,6 +3,7 @@ pub mod CoreState
 pub mod Lawful
 pub mod FinishedRun
 -- what the core's functions promise each other
+pub mod Matching
 pub mod Unfired
 pub mod Firing
 pub mod Turn

@@ -1,17 +1,20 @@
 //! The effect of a firing: what the actions of a rule ask for, before a commit gives time tags. It
 //! evaluates the actions of thin rules, which never fail.
 
-ghost use Rattle.std.specs.Prelude.{◌≡◌, ◌++◌, true, Ok, IfOk, OnOk, replicate, slice_get, slice_set};
+ghost use Rattle.std.specs.Prelude.{◌≡◌, ◌++◌, true, Ok, Some, None, IfOk, OnOk, length, replicate, slice_get, slice_set};
+ghost use Rattle.std.specs.Bool.{OnTrue, OnFalse};
 ghost use Rattle.std.specs.List.{list_all};
 ghost use Rattle.rule_base.specs.Value.{nil};
+ghost use Rattle.rule_base.specs.Bindings.{binding_of, no_bindings};
 ghost use Rattle.rule_base.specs.ElementMatch.{matched};
 ghost use Rattle.rule_base.specs.Thin.{is_thin_rule, is_thin_action, is_thin_item, is_thin_term};
 ghost use Rattle.rule_base.specs.Effect.{effect, beginning, after_action, after_remove, is_gone};
 ghost use Rattle.rule_base.specs.Term.{after_sets, item_piece, item_pieces, term_value};
+ghost use Rattle.firing_core.specs.Matching.{MayMatch};
 ghost use Rattle.firing_core.specs.Reached.{effect_in, progress_in, after_removes};
 
-use crate::acceptance::{Bindings, accepts, value_bound};
-use crate::instantiations::unbound;
+use crate::acceptance::accepts;
+use element_tests::Binds;
 use ops_text::{OutOfMemory, Sequence};
 use rule_base::{Action, Change, Cond, Element, Item, Piece, Rule, Term, Value};
 use std::alloc::Global;
@@ -27,13 +30,14 @@ pub struct Delta {
 /// How far a right-hand side has come.
 #[derive(Drop)]
 struct Reached {
-    bindings: Bindings,
+    bindings: Binds,
     delta: Delta,
 }
 
 /// Evaluates the actions of a rule with the elements of its positive condition elements.
 pub fn evaluate(alloc: Global, rule: &Rule, elements: &[Element]) -> Result<Delta, OutOfMemory>
-    requires { is_thin_rule rule.now ≡ true }
+    requires thin { is_thin_rule rule.now ≡ true }
+    requires may { MayMatch rule.now.conds elements.now (no_bindings rule.now.vars) }
     ensures { IfOk result (λ delta. effect rule.now elements.now ≡ Ok (effect_in delta)) }
 {
     let mut reached = Reached {
@@ -52,39 +56,36 @@ pub fn evaluate(alloc: Global, rule: &Rule, elements: &[Element]) -> Result<Delt
 }
 
 /// The bindings with which a right-hand side begins: none where the rule doesn't match the elements.
-fn beginning(alloc: Global, rule: &Rule, elements: &[Element]) -> Result<Bindings, OutOfMemory>
-    ensures { IfOk result
-        (λ bindings. bindings ≡ (beginning rule.now elements.now).bindings) }
+fn beginning(alloc: Global, rule: &Rule, elements: &[Element]) -> Result<Binds, OutOfMemory>
+    requires { MayMatch rule.now.conds elements.now (no_bindings rule.now.vars) }
+    ensures { IfOk result (λ binds. binds ≡ (beginning rule.now elements.now).bindings) }
 {
-    let bindings = unbound(alloc, rule.vars)?;
-    match matched(alloc, rule.conds.as_slice(), elements, bindings)? {
-        Some(bindings) => Ok(bindings),
-        None => unbound(alloc, rule.vars),
+    let mut binds = Binds::new(alloc, rule.vars)?;
+    if !matched(rule.conds.as_slice(), elements, &mut binds) {
+        binds.clear();
     }
+    Ok(binds)
 }
 
-/// The bindings with which the positive condition elements accept the elements, one each.
-fn matched(
-    alloc: Global,
-    conds: &[Cond],
-    elements: &[Element],
-    bindings: Bindings,
-) -> Result<Option<Bindings>, OutOfMemory>
-    ensures { IfOk result (λ after. after ≡ matched conds.now elements.now bindings) }
+/// Whether the positive condition elements accept the elements, one each. The row then has the
+/// bindings of all of them.
+fn matched(conds: &[Cond], elements: &[Element], binds: &mut Binds) -> bool
+    requires { MayMatch conds.now elements.now binds.old }
+    ensures matched { OnTrue result
+        (matched conds.now elements.now binds.old ≡ Some binds.new) }
+    ensures refused { OnFalse result (matched conds.now elements.now binds.old ≡ None) }
+    ensures places { length binds.new ≡ length binds.old }
 {
     let Some((cond, conds)) = conds.split_first() else {
-        return Ok(elements.is_empty().then_some(bindings));
+        return elements.is_empty();
     };
     if cond.negated {
-        return matched(alloc, conds, elements, bindings);
+        return matched(conds, elements, binds);
     }
     let Some((element, elements)) = elements.split_first() else {
-        return Ok(None);
+        return false;
     };
-    match accepts(alloc, cond, bindings.as_slice(), element)? {
-        Some(after) => matched(alloc, conds, elements, after),
-        None => Ok(None),
-    }
+    accepts(cond, binds, element) && matched(conds, elements, binds)
 }
 
 /// Takes one action.
@@ -153,6 +154,16 @@ fn term_value(bindings: &[Option<Value>], term: &Term) -> Value
         Term::Con(value) => *value,
         Term::Var(var) => value_bound(bindings, *var).unwrap_or(Value::Sym(0)),
         Term::Compute(_) => unreachable!(),
+    }
+}
+
+/// The variable's value, if it has one.
+fn value_bound(bindings: &[Option<Value>], var: u32) -> Option<Value>
+    ensures { result ≡ binding_of bindings.now var }
+{
+    match bindings.get(var as usize) {
+        Some(binding) => *binding,
+        None => None,
     }
 }
 

@@ -1,13 +1,17 @@
 //! The conflict set, found anew by plain filters over the whole memory.
 
-ghost use Rattle.std.specs.Prelude.{◌≡◌, ◌≤◌, [], ◌∷◌, ◌++◌, false, IfOk, OnOk, not, length, map};
+ghost use Rattle.std.specs.Prelude.{◌≡◌, [], ◌∷◌, ◌++◌, false, IfOk, OnOk, not, map};
 ghost use Rattle.rule_base.specs.Bindings.{no_bindings};
+ghost use Rattle.rule_base.specs.Memory.{IsMemory};
+ghost use Rattle.rule_base.specs.Sound.{IsSound, sizes_of};
 ghost use Rattle.rule_base.specs.ConflictSet.{tags_by, tag_lists, instantiations, conflict_set};
+ghost use Rattle.firing_core.specs.Matching.{MayMatch};
 ghost use Rattle.firing_core.specs.Unfired.{is_unfired_in, first_unfired};
 
-use crate::acceptance::{Bindings, accepts, accepts_some};
+use crate::acceptance::{accepts, accepts_some};
+use element_tests::{Binds, unbind};
 use ops_text::{OutOfMemory, Sequence};
-use rule_base::{Choice, Cond, Element, Entry, Program, Rule, Value};
+use rule_base::{Choice, Cond, Element, Entry, Program, Rule};
 use std::alloc::Global;
 
 /// The first choice of the conflict set that no entry of the journal has, or none where each has
@@ -19,7 +23,8 @@ pub fn first_unfired(
     memory: &[Element],
     entries: &[Entry],
 ) -> Result<Option<Choice>, OutOfMemory>
-    requires { length program.now.rules ≤ 4096 }
+    requires sound { IsSound program.now }
+    requires memory { IsMemory (sizes_of program.now.classes) memory.now }
     ensures { IfOk result
         (λ found. found ≡ first_unfired entries.now (conflict_set program.now memory.now)) }
 {
@@ -42,12 +47,13 @@ fn first_unfired_of(
     memory: &[Element],
     entries: &[Entry],
 ) -> Result<Option<Choice>, OutOfMemory>
+    requires { MayMatch rule.now.conds memory.now (no_bindings rule.now.vars) }
     ensures { IfOk result
         (λ found. found ≡
         first_unfired entries.now (instantiations memory.now (number, rule.now))) }
 {
-    let bindings = unbound(alloc, rule.vars)?;
-    let lists = tag_lists(alloc, rule.conds.as_slice(), memory, bindings.as_slice())?;
+    let mut binds = Binds::new(alloc, rule.vars)?;
+    let lists = tag_lists(alloc, rule.conds.as_slice(), memory, &mut binds)?;
     for tags in lists.as_slice() {
         if !has_fired(number, tags.as_slice(), entries) {
             let tags = Sequence::from_vec(Vec::from_slice(alloc, tags.as_slice())?);
@@ -69,34 +75,30 @@ fn has_fired(number: u32, tags: &[u64], entries: &[Entry]) -> bool
     false
 }
 
-/// No variable of so many has a value.
-pub fn unbound(alloc: Global, vars: u32) -> Result<Bindings, OutOfMemory>
-    ensures { IfOk result (λ bindings. bindings ≡ no_bindings vars) }
-{
-    let bindings = vec![in alloc; None; vars as usize]?;
-    Ok(Sequence::from_vec(bindings))
-}
-
-/// The lists of tags that the condition elements accept under these bindings.
+/// The lists of tags that the condition elements accept under the row's bindings. The row is as
+/// before, but for want of memory.
 #[cycle(tag_lists)]
 fn tag_lists(
     alloc: Global,
     conds: &[Cond],
     memory: &[Element],
-    bindings: &[Option<Value>],
+    binds: &mut Binds,
 ) -> Result<Vec<Sequence<u64>>, OutOfMemory>
-    ensures { IfOk result (λ lists. lists.items ≡ tag_lists conds.now memory.now bindings.now) }
+    requires { MayMatch conds.now memory.now binds.old }
+    ensures lists { IfOk result
+        (λ lists. lists.items ≡ tag_lists conds.now memory.now binds.old) }
+    ensures kept { OnOk result (binds.new ≡ binds.old) }
 {
     match conds.split_first() {
         None => one_empty(alloc),
         Some((cond, rest)) if cond.negated => {
-            if accepts_some(alloc, cond, bindings, memory)? {
+            if accepts_some(cond, memory, binds) {
                 Ok(Vec::new(alloc))
             } else {
-                tag_lists(alloc, rest, memory, bindings)
+                tag_lists(alloc, rest, memory, binds)
             }
         }
-        Some((cond, rest)) => tag_lists_from(alloc, cond, rest, memory, bindings),
+        Some((cond, rest)) => tag_lists_from(alloc, cond, rest, memory, binds),
     }
 }
 
@@ -108,16 +110,20 @@ fn tag_lists_from(
     cond: &Cond,
     rest: &[Cond],
     memory: &[Element],
-    bindings: &[Option<Value>],
+    binds: &mut Binds,
 ) -> Result<Vec<Sequence<u64>>, OutOfMemory>
-    ensures { IfOk result
+    requires may { MayMatch (cond.now ∷ rest.now) memory.now binds.old }
+    requires positive { cond.now.negated ≡ false }
+    ensures lists { IfOk result
         (λ lists. lists.items ≡
-        tags_by false cond.now memory.now bindings.now (tag_lists rest.now memory.now)) }
+        tags_by false cond.now memory.now binds.old (tag_lists rest.now memory.now)) }
+    ensures kept { OnOk result (binds.new ≡ binds.old) }
 {
     let mut lists = Vec::new(alloc);
     for element in memory {
-        if let Some(after) = accepts(alloc, cond, bindings, element)? {
-            let following = tag_lists(alloc, rest, memory, after.as_slice())?;
+        if accepts(cond, binds, element) {
+            let following = tag_lists(alloc, rest, memory, binds)?;
+            unbind(cond, binds);
             put_first(alloc, element.tag, following.as_slice(), &mut lists)?;
         }
     }

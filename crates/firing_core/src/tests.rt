@@ -3,7 +3,9 @@
 
 ghost use Rattle.std.specs.Prelude.{◌≡◌, [], ◌∷◌, true, false, IfOk};
 ghost use Rattle.rule_base.specs.declared.value.Value.TheVariants.{Int};
-ghost use Rattle.rule_base.specs.declared.condition.Test.TheVariants.{Bind};
+ghost use Rattle.rule_base.specs.declared.condition.Pred.TheVariants.{Eq};
+ghost use Rattle.rule_base.specs.declared.condition.Arg.TheVariants as arg;
+ghost use Rattle.rule_base.specs.declared.condition.Test.TheVariants.{Bind, Cmp};
 ghost use Rattle.rule_base.specs.declared.action.Term.TheVariants.{Var};
 ghost use Rattle.rule_base.specs.declared.action.Item.TheVariants.{Put};
 ghost use Rattle.rule_base.specs.declared.action.Action.TheVariants.{Write};
@@ -107,16 +109,7 @@ fn pairing(alloc: Global) -> Result<Rule, OutOfMemory>
     ensures thin { IfOk result (λ rule. is_thin_rule rule ≡ true) }
 {
     let first = binding(alloc, 0)?;
-    let same = Test::Cmp {
-        attr: 0,
-        pred: Pred::Eq,
-        arg: Arg::Var(0),
-    };
-    let second = Cond {
-        negated: false,
-        class: 1,
-        tests: Sequence::from_vec(vec![in alloc; same]?),
-    };
+    let second = comparing(alloc, false, 1)?;
     let write = writing(alloc)?;
     let remove = Action::Remove {
         at: Sequence::from_vec(vec![in alloc; 1, 0]?),
@@ -171,6 +164,64 @@ fn binding(alloc: Global, class: u32) -> Result<Cond, OutOfMemory>
     })
 }
 
+/// `(CLASS ^x <v>)`, where <v> is bound before, or this with a minus
+fn comparing(alloc: Global, negated: bool, class: u32) -> Result<Cond, OutOfMemory>
+    ensures { IfOk result
+        (λ cond. cond ≡
+        record { negated = negated; class = class; tests = Cmp 0 Eq (arg.Var 0) ∷ [] }) }
+{
+    let same = Test::Cmp {
+        attr: 0,
+        pred: Pred::Eq,
+        arg: Arg::Var(0),
+    };
+    Ok(Cond {
+        negated,
+        class,
+        tests: Sequence::from_vec(vec![in alloc; same]?),
+    })
+}
+
+/// `(p r (a ^x <v>) -(b ^x <v>) --> (make b ^x <v>))`
+fn once(alloc: Global) -> Result<Rule, OutOfMemory>
+    ensures sound { IfOk result (IsSoundRule (1 ∷ 1 ∷ [])) }
+    ensures thin { IfOk result (λ rule. is_thin_rule rule ≡ true) }
+{
+    let first = binding(alloc, 0)?;
+    let none = comparing(alloc, true, 1)?;
+    let make = Action::Make {
+        class: 1,
+        size: 1,
+        sets: Sequence::from_vec(vec![in alloc; (0, Term::Var(0))]?),
+    };
+    Ok(Rule {
+        name: 4,
+        vars: 1,
+        positives: 1,
+        conds: Sequence::from_vec(vec![in alloc; first, none]?),
+        actions: Sequence::from_vec(vec![in alloc; make]?),
+    })
+}
+
+/// `(p r (a ^x <v>) (a ^x <v>) --> (remove 1 2))`
+fn twice(alloc: Global) -> Result<Rule, OutOfMemory>
+    ensures sound { IfOk result (IsSoundRule (1 ∷ 1 ∷ [])) }
+    ensures thin { IfOk result (λ rule. is_thin_rule rule ≡ true) }
+{
+    let first = binding(alloc, 0)?;
+    let second = comparing(alloc, false, 0)?;
+    let remove = Action::Remove {
+        at: Sequence::from_vec(vec![in alloc; 0, 1]?),
+    };
+    Ok(Rule {
+        name: 4,
+        vars: 1,
+        positives: 2,
+        conds: Sequence::from_vec(vec![in alloc; first, second]?),
+        actions: Sequence::from_vec(vec![in alloc; remove]?),
+    })
+}
+
 /// `(write <v>)`
 fn writing(alloc: Global) -> Result<Action, OutOfMemory>
     ensures { IfOk result (λ action. action ≡ Write (Put (Var 0) ∷ [])) }
@@ -185,6 +236,15 @@ fn one_a(alloc: Global) -> Result<Vec<Element>, OutOfMemory>
 {
     let first = element(alloc, 1, 0, 7)?;
     Ok(vec![in alloc; first]?)
+}
+
+/// `(make a ^x 7) (make a ^x 7)`
+fn two_equal(alloc: Global) -> Result<Vec<Element>, OutOfMemory>
+    ensures { IfOk result (λ elements. IsOpening (1 ∷ 1 ∷ []) elements.items) }
+{
+    let first = element(alloc, 1, 0, 7)?;
+    let second = element(alloc, 2, 0, 7)?;
+    Ok(vec![in alloc; first, second]?)
 }
 
 /// `(make a ^x 7) (make a ^x 8) (make b ^x 8)`
@@ -285,5 +345,48 @@ fn removals_come_first_and_makes_get_the_next_tags(rt: HostRuntime) -> Result<()
     assert!(rt; matches!(changes[0], Tagged::Gone(1)));
     assert!(rt; is_born(&changes[1], 2, 1, Value::Int(7)));
     assert!(rt; is_born(&changes[2], 3, 1, Value::Sym(0)));
+    Ok(())
+}
+
+#[test]
+fn a_negated_condition_element_sees_what_is_bound_to_its_left(rt: HostRuntime) -> Result<(), Fail> {
+    let alloc = rt.alloc();
+    let program = Arc::new(alloc, with_rule(alloc, once(alloc)?)?)?;
+    let opening = two_a_and_b(alloc)?;
+    let Finished { core, ending } = run_alone(alloc, program, opening.as_slice(), 9)?;
+    assert!(rt; matches!(ending, Ending::Quiet));
+    let entries = core.entries();
+    assert_eq!(rt; entries.len(), 1);
+    assert_eq!(rt; entries[0].choice.tags.as_slice(), [1].as_slice());
+    let memory = core.memory();
+    assert_eq!(rt; memory.len(), 4);
+    assert!(rt; is_element(&memory[3], 4, 1, Value::Int(7)));
+    Ok(())
+}
+
+#[test]
+fn a_rule_blocks_itself_by_what_it_makes(rt: HostRuntime) -> Result<(), Fail> {
+    let alloc = rt.alloc();
+    let program = Arc::new(alloc, with_rule(alloc, once(alloc)?)?)?;
+    let opening = two_equal(alloc)?;
+    let Finished { core, ending } = run_alone(alloc, program, opening.as_slice(), 9)?;
+    assert!(rt; matches!(ending, Ending::Quiet));
+    assert_eq!(rt; core.count(), 1);
+    assert_eq!(rt; core.memory().len(), 3);
+    assert_eq!(rt; core.next(), 4);
+    Ok(())
+}
+
+#[test]
+fn one_element_matches_two_condition_elements(rt: HostRuntime) -> Result<(), Fail> {
+    let alloc = rt.alloc();
+    let program = Arc::new(alloc, with_rule(alloc, twice(alloc)?)?)?;
+    let opening = one_a(alloc)?;
+    let Finished { core, ending } = run_alone(alloc, program, opening.as_slice(), 9)?;
+    assert!(rt; matches!(ending, Ending::Quiet));
+    let entries = core.entries();
+    assert_eq!(rt; entries.len(), 1);
+    assert_eq!(rt; entries[0].choice.tags.as_slice(), [1, 1].as_slice());
+    assert!(rt; core.memory().is_empty());
     Ok(())
 }

@@ -1,8 +1,5 @@
--- What is left of the tests leads to the same bindings.
-use Rattle.std.proofs.Common.{◌≡◌, drop}
-use Rattle.rule_base.specs.Acceptance.{after_tests}
+-- The ledger of the steps is that of the blank.
 use Rattle.firing_core.proofs.acceptance.accepts.Given as goal
 
-abbrev pub invariant-loop-test : goal.invariant-loop-test
-invariant-loop-test l =
-    after_tests l.cond.tests l.bindings l.element.values ≡ after_tests (drop l.test-index l.cond.tests) l.after.items l.element.values
+abbrev pub ghosts-accepts_on : goal.ghosts-accepts_on
+ghosts-accepts_on a = record { name = a.blank.name; parts = a.blank.parts }

@@ -1,13 +1,62 @@
--- One element more adds its lists, or none where it is not accepted.
-use Rattle.std.proofs.Common.{rules}
+-- One element more adds its lists, or none where it is not accepted; what it bound is taken away again.
+use Rattle.std.proofs.Common.{◌≡◌, ◌∷◌, Some, None, length, rules, sym, ◌∙◌, ap, subst}
+use Rattle.std.specs.List.{AllByRecursion}
+use Rattle.rule_base.specs.Acceptance.{accepts}
 use Rattle.rule_base.specs.ConflictSet.{tag_lists}
+use Rattle.element_tests.specs.Asking.{HasPlace, MayAsk}
+use Rattle.firing_core.specs.Matching.{MayMatch}
 use Rattle.firing_core.proofs.FilterLemmas.{tags_by-accepted, tags_by-passed}
+use Rattle.firing_core.proofs.MatchingLemmas.{Each-place, MayFilter-first, MayMatch-accepted, MayMatch-negated}
 use Rattle.firing_core.proofs.instantiations.+tag_lists.Goals as goal
-use Rattle.firing_core.proofs.instantiations.+tag_lists.Goals.{tag_lists_from-in-Some+in_ok-following+in_ok-put_first, tag_lists_from-in_default}
+use Rattle.firing_core.proofs.instantiations.+tag_lists.Goals.{tag_lists_from-then-accepts+in_ok-following+in_ok-put_first, tag_lists_from-else-accepts}
+
+pub tag_lists-accepts_some-requires : goal.tag_lists-accepts_some-requires
+tag_lists-accepts_some-requires t c =
+    let whole : c.args.conds.now ≡ c.in-Some.cond.now ∷ c.in-Some.rest.now = search rules in
+    MayFilter-first c.in-Some.cond.now c.in-Some.rest.now c.args.memory.now c.args.binds.now (subst (λ cs. MayMatch cs c.args.memory.now c.args.binds.now) whole c.requires)
+
+pub tag_lists-tag_lists-requires : goal.tag_lists-tag_lists-requires
+tag_lists-tag_lists-requires t c =
+    let whole : c.args.conds.now ≡ c.in-Some.cond.now ∷ c.in-Some.rest.now = search rules in
+    let may = MayMatch-negated c.in-Some.cond.now c.in-Some.rest.now c.args.memory.now c.args.binds.now (subst (λ cs. MayMatch cs c.args.memory.now c.args.binds.now) whole c.requires) c.if-cond.true in
+    (search rules, subst (λ b. MayMatch c.in-Some.rest.now c.args.memory.now b) (sym c.if-accepts_some.ensures.kept) may)
+
+pub tag_lists_from-accepts-requires : goal.tag_lists_from-accepts-requires
+tag_lists_from-accepts-requires t c =
+    let filter = MayFilter-first c.args.cond.now c.args.rest.now c.args.memory.now c.args.binds.now c.requires.may in
+    let asked : MayAsk c.args.cond.now c.args.binds.now c.element-item.result = Each-place (MayAsk c.args.cond.now c.args.binds.now) c.args.memory.now c.loop-element.element-index c.element-item.result filter.asked (search rules) c.element-item.is in
+    subst (λ b. MayAsk c.args.cond.now b c.element-item.result) (sym c.loop-element.invariant.kept) asked
+
+pub tag_lists_from-tag_lists-requires : goal.tag_lists_from-tag_lists-requires
+tag_lists_from-tag_lists-requires t c =
+    let accepted = subst (λ b. accepts c.args.cond.now b c.element-item.result ≡ Some c.accepts.new.binds) c.loop-element.invariant.kept c.if-accepts.ensures.accepted in
+    (search rules, MayMatch-accepted c.args.cond.now c.args.rest.now c.args.memory.now c.args.binds.now c.accepts.new.binds c.element-item.result c.requires.may c.requires.positive accepted)
+
+pub tag_lists_from-unbind-requires : goal.tag_lists_from-unbind-requires
+tag_lists_from-unbind-requires t c =
+    let filter = MayFilter-first c.args.cond.now c.args.rest.now c.args.memory.now c.args.binds.now c.requires.may in
+    let long : length c.tag_lists.new.binds ≡ length c.args.binds.now = ap length c.in_ok-following.ensures.kept ∙ c.if-accepts.ensures.places ∙ ap length c.loop-element.invariant.kept in
+    subst (λ n. AllByRecursion (HasPlace n) c.args.cond.now.tests) (sym long) filter.placed
 
 pub tag_lists_from-loop-element-preserved : goal.tag_lists_from-loop-element-preserved
 tag_lists_from-loop-element-preserved t c =
-    elim c.match-branch-2.branch [
-      | tag_lists_from-in-Some+in_ok-following+in_ok-put_first w ↦ tags_by-accepted c.args.cond.now c.args.memory.now c.args.bindings.now (tag_lists c.args.rest.now c.args.memory.now) c.loop-element.element-index c.element-item.result w.in-Some.after c.loop-element.lists.items c.match-branch-2.lists.items (search rules) (search rules) (search rules) c.loop-element.invariant (search rules)
-      | tag_lists_from-in_default w ↦ tags_by-passed c.args.cond.now c.args.memory.now c.args.bindings.now (tag_lists c.args.rest.now c.args.memory.now) c.loop-element.element-index c.element-item.result c.match-branch-2.lists.items (search rules) (search rules) (search rules) (search rules)
+    let cond = c.args.cond.now in
+    let row = c.args.binds.now in
+    let e = c.element-item.result in
+    let filter = MayFilter-first cond c.args.rest.now c.args.memory.now row c.requires.may in
+    let asked : MayAsk cond row e = Each-place (MayAsk cond row) c.args.memory.now c.loop-element.element-index e filter.asked (search rules) c.element-item.is in
+    elim c.if-accepts.branch [
+      | tag_lists_from-then-accepts+in_ok-following+in_ok-put_first w ↦
+          let accepted = subst (λ b. accepts cond b e ≡ Some c.accepts.new.binds) c.loop-element.invariant.kept w.if-accepts.ensures.accepted in
+          let undone = w.unbind.ensures.undone row e asked (accepted ∙ ap (λ b. Some b) (sym w.in_ok-following.ensures.kept)) in
+          record {
+            so_far = tags_by-accepted cond c.args.memory.now row (tag_lists c.args.rest.now c.args.memory.now) c.loop-element.element-index e c.accepts.new.binds c.loop-element.lists.items c.if-accepts.lists.items (search rules) c.element-item.is (sym accepted) c.loop-element.invariant.so_far (search rules);
+            kept = w.binds-is ∙ undone;
+          }
+      | tag_lists_from-else-accepts w ↦
+          let refused = subst (λ b. accepts cond b e ≡ None) c.loop-element.invariant.kept w.if-accepts.ensures.refused in
+          record {
+            so_far = tags_by-passed cond c.args.memory.now row (tag_lists c.args.rest.now c.args.memory.now) c.loop-element.element-index e c.if-accepts.lists.items (search rules) c.element-item.is (sym refused) (search rules);
+            kept = w.binds-is ∙ w.if-accepts.ensures.kept ∙ c.loop-element.invariant.kept;
+          }
     ]

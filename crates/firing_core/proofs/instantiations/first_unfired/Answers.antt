@@ -1,7 +1,14 @@
--- The rule at hand has the first unfired choice, or the rules after it do.
+-- Each rule may be matched; the rule at hand has the first unfired choice, or the rules after it do.
 use Rattle.std.proofs.Common.{rules, sym, ◌∙◌, arith}
+use Rattle.rule_base.specs.Sound.{IsSoundRule, sizes_of}
+use Rattle.firing_core.proofs.MatchingLemmas.{Each-place, MayMatch-sound}
 use Rattle.firing_core.proofs.FilterLemmas.{first_unfired-here, first_unfired-later}
 use Rattle.firing_core.proofs.instantiations.first_unfired.Goals as goal
+
+pub first_unfired_of-requires : goal.first_unfired_of-requires
+first_unfired_of-requires c =
+    let sizes = sizes_of c.args.program.now.classes in
+    MayMatch-sound sizes c.rule-item.result c.args.memory.now (Each-place (IsSoundRule sizes) c.args.program.now.rules c.loop-rule.rule-index c.rule-item.result c.requires.sound.sound_rules (search rules) (search rules)) c.requires.memory.sized
 
 pub returns-then-is_some : goal.returns-then-is_some
 returns-then-is_some c =
