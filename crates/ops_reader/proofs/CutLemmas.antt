@@ -47,21 +47,21 @@ word_is (x ∷ xs) rest some all end =
     let both = both_true (is_letter x) (list_all is_letter xs) all in
     letter_begins (kind_of x) x (xs ++ rest) both.0 ∙ in_word (x ∷ []) xs rest both.1 end
 
-abbrev is_bar : ByteKind → Bool
+abbrev pub is_bar : ByteKind → Bool
 is_bar Bar = true
 is_bar kind = false
 
-abbrev is_line_feed : ByteKind → Bool
+abbrev pub is_line_feed : ByteKind → Bool
 is_line_feed LineFeed = true
 is_line_feed kind = false
 
-not_bar : (b : ℕ) → stands_in_bars b ≡ true → is_bar (kind_of b) ≡ false
+pub not_bar : (b : ℕ) → stands_in_bars b ≡ true → is_bar (kind_of b) ≡ false
 not_bar b h = grind (arith, nat_tests)
 
-not_line_feed : (b : ℕ) → stands_in_line b ≡ true → is_line_feed (kind_of b) ≡ false
+pub not_line_feed : (b : ℕ) → stands_in_line b ≡ true → is_line_feed (kind_of b) ≡ false
 not_line_feed b h = grind (arith, nat_tests)
 
-line_feed : (b : ℕ) → stands_in_line b ≡ false → kind_of b ≡ LineFeed
+pub line_feed : (b : ℕ) → stands_in_line b ≡ false → kind_of b ≡ LineFeed
 line_feed b h = grind (arith, nat_tests)
 
 bar_stays : (content : List ℕ) (kind : ByteKind) (b : ℕ) (bs : List ℕ) → is_bar kind ≡ false
@@ -153,7 +153,7 @@ line_cut text =
     let n = prefix_len stands_in_line text in
     ap (tokens Comment) (sym (take-append-drop n text)) ∙ in_line (take n text) (drop n text) (prefix_passes stands_in_line text) (prefix_stops stands_in_line text)
 
-is_the_bar : (b : ℕ) → stands_in_bars b ≡ false → b ≡ byte "|"
+pub is_the_bar : (b : ℕ) → stands_in_bars b ≡ false → b ≡ byte "|"
 is_the_bar b h = grind (arith, nat_tests)
 
 -- a text behind a bar, which has another one or none

@@ -7,7 +7,8 @@ use Rattle.ops_reader.specs.declared.form.Form.{Form}
 use Rattle.ops_reader.specs.Token.{Token}
 use Rattle.ops_reader.specs.Grammar.{IsText, any, form}
 use Rattle.ops_reader.specs.Reading.{Read, start, run}
-use Rattle.ops_reader.specs.Exact.{BeginsText, done, ReadsFronts, ReadsTexts, HasOneReading}
+use Rattle.ops_reader.specs.Refusal.{BeginsText}
+use Rattle.ops_reader.specs.Exact.{done, ReadsFronts, ReadsTexts, HasOneReading}
 use Rattle.ops_reader.proofs.Phrases.{without_nothing}
 use Rattle.ops_reader.proofs.Runs.{run-append, run_read, start_read}
 use Rattle.ops_reader.proofs.Complete.{text_read}
@@ -22,11 +23,11 @@ read_begins : (names : Names) (tokens : List Token) (read : Read) → run (start
 read_begins names tokens read e =
     let end = form_ends read.names read.forms read.part in
     let more = rest_of_form read.part in (
-      end.1,
+      end.forms,
       more,
-      end.0,
-      done_is_text names (tokens ++ more) end.1 end.0
-          (run-append (start names) tokens more ∙ ap (option_and_then (λ r. run r more)) e ∙ end.2),
+      end.names,
+      done_is_text names (tokens ++ more) end.forms end.names
+          (run-append (start names) tokens more ∙ ap (option_and_then (λ r. run r more)) e ∙ end.read),
     )
 
 first_some : {A B : Type 0} (f : A → Option B) (o : Option A) (b : B) → option_and_then f o ≡ Some b → IsSome o

@@ -15,7 +15,7 @@ use Rattle.ops_reader.specs.WordShapes.{IsSign, IsSignedDigits, IsExponent, HasP
 use Rattle.ops_reader.proofs.CutLemmas.{both_true, prefix_stops}
 
 -- tests that pass together
-and_true : (a b : Bool) → a ≡ true → b ≡ true → (a && b) ≡ true
+pub and_true : (a b : Bool) → a ≡ true → b ≡ true → (a && b) ≡ true
 and_true true b p q = q
 and_true false b p q = absurd (cc)
 
@@ -31,7 +31,7 @@ or_right : (a b : Bool) → b ≡ true → (a || b) ≡ true
 or_right true b h = refl
 or_right false b h = h
 
-all_weaker : (p q : ℕ → Bool) → ((b : ℕ) → p b ≡ true → q b ≡ true) → (bs : List ℕ) → AreAll p bs → AreAll q bs
+pub all_weaker : (p q : ℕ → Bool) → ((b : ℕ) → p b ≡ true → q b ≡ true) → (bs : List ℕ) → AreAll p bs → AreAll q bs
 all_weaker p q weaker [] all = refl
 all_weaker p q weaker (b ∷ bs) all =
     let both = both_true (p b) (list_all p bs) all in

@@ -33,7 +33,7 @@ passed : (b : Bool) → b ≡ true → T b
 passed true h = tt
 passed false h = absurd (cc)
 
-fits_is : (z : ℤ) → fits z ≡ true → FitsSigned w64 z
+pub fits_is : (z : ℤ) → fits z ≡ true → FitsSigned w64 z
 fits_is (pos n) h = sfits_lit {w = w64} {z = pos n} (passed (nat_lt n (2 ^ 63)) h)
 fits_is (negsuc n) h = sfits_lit {w = w64} {z = negsuc n} (passed (nat_lt n (2 ^ 63)) h)
 

@@ -1,15 +1,12 @@
 -- Reading token by token is exact: it goes on as long as the tokens begin a text, and no longer.
-use Rattle.std.specs.Prelude.{◌≡◌, List, ◌++◌, Some, IsSome}
+use Rattle.std.specs.Prelude.{◌≡◌, List, Some, IsSome}
 use Rattle.ops_text.specs.Names.{Names}
 use Rattle.ops_reader.specs.declared.form.Form.{Form}
 use Rattle.ops_reader.specs.declared.part.FormPart.TheVariants as of_form
 use Rattle.ops_reader.specs.Token.{Token}
 use Rattle.ops_reader.specs.Grammar.{IsText}
+use Rattle.ops_reader.specs.Refusal.{BeginsText}
 use Rattle.ops_reader.specs.Reading.{Read, start, run}
-
--- some text begins with these tokens
-abbrev pub BeginsText : Names → List Token → Type 0
-BeginsText names tokens = (forms : List Form) × (more : List Token) × (after : Names) × IsText names forms (tokens ++ more) after
 
 -- these forms have been read, and none is open
 abbrev pub done : List Form → Names → Read

@@ -92,8 +92,22 @@ keyword_of word =
     if bytes_eq word (codes "literalize") then Some keyword.Literalize
     else if bytes_eq word (codes "p") then Some keyword.P
     else if bytes_eq word (codes "make") then Some keyword.Make
+    else if bytes_eq word (codes "strategy") then Some keyword.Strategy
+    else if bytes_eq word (codes "lex") then Some keyword.Lex
+    else if bytes_eq word (codes "mea") then Some keyword.Mea
+    else if bytes_eq word (codes "watch") then Some keyword.Watch
+    else if bytes_eq word (codes "modify") then Some keyword.Modify
     else if bytes_eq word (codes "remove") then Some keyword.Remove
+    else if bytes_eq word (codes "bind") then Some keyword.Bind
     else if bytes_eq word (codes "write") then Some keyword.Write
+    else if bytes_eq word (codes "halt") then Some keyword.Halt
+    else if bytes_eq word (codes "compute") then Some keyword.Compute
+    else if bytes_eq word (codes "crlf") then Some keyword.Crlf
+    else if bytes_eq word (codes "tabto") then Some keyword.Tabto
+    else if bytes_eq word (codes "rjust") then Some keyword.Rjust
+    else if bytes_eq word (codes "+") then Some keyword.Plus
+    else if bytes_eq word (codes "*") then Some keyword.Star
+    else if bytes_eq word (codes "\\\\") then Some keyword.Backslashes
     else None
 
 -- a symbol or a variable's name has at most 255 bytes

@@ -2,7 +2,13 @@
 
 mod action;
 mod cond;
+mod expression;
 mod form;
+mod item;
+mod pattern;
 mod set;
+mod simple;
+mod term;
+mod test;
 
 pub(crate) use form::form_after;

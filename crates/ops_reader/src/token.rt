@@ -8,8 +8,25 @@ pub(crate) enum Keyword {
     Literalize,
     P,
     Make,
+    Strategy,
+    Lex,
+    Mea,
+    Watch,
+    Modify,
     Remove,
+    Bind,
     Write,
+    Halt,
+    Compute,
+    Crlf,
+    Tabto,
+    Rjust,
+    /// `+`
+    Plus,
+    /// `*`
+    Star,
+    /// Two backslashes.
+    Backslashes,
 }
 
 /// What is wrong with a token by itself.

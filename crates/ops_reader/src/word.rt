@@ -55,10 +55,38 @@ fn keyword_of(word: &[u8]) -> Option<Keyword>
         Some(Keyword::P)
     } else if word == b"make".as_slice() {
         Some(Keyword::Make)
+    } else if word == b"strategy".as_slice() {
+        Some(Keyword::Strategy)
+    } else if word == b"lex".as_slice() {
+        Some(Keyword::Lex)
+    } else if word == b"mea".as_slice() {
+        Some(Keyword::Mea)
+    } else if word == b"watch".as_slice() {
+        Some(Keyword::Watch)
+    } else if word == b"modify".as_slice() {
+        Some(Keyword::Modify)
     } else if word == b"remove".as_slice() {
         Some(Keyword::Remove)
+    } else if word == b"bind".as_slice() {
+        Some(Keyword::Bind)
     } else if word == b"write".as_slice() {
         Some(Keyword::Write)
+    } else if word == b"halt".as_slice() {
+        Some(Keyword::Halt)
+    } else if word == b"compute".as_slice() {
+        Some(Keyword::Compute)
+    } else if word == b"crlf".as_slice() {
+        Some(Keyword::Crlf)
+    } else if word == b"tabto".as_slice() {
+        Some(Keyword::Tabto)
+    } else if word == b"rjust".as_slice() {
+        Some(Keyword::Rjust)
+    } else if word == b"+".as_slice() {
+        Some(Keyword::Plus)
+    } else if word == b"*".as_slice() {
+        Some(Keyword::Star)
+    } else if word == b"\\\\".as_slice() {
+        Some(Keyword::Backslashes)
     } else {
         None
     }

@@ -1,17 +1,18 @@
 //! Actions.
 
-ghost use Rattle.std.specs.Prelude.{◌≡◌, ◌-◌, ◌^◌, ◌<◌, length};
+ghost use Rattle.std.specs.Prelude.{◌-◌, ◌^◌, ◌<◌, length};
 ghost use Rattle.ops_text.specs.Names.{Names};
 ghost use Rattle.ops_reader.specs.Token.{seen};
-ghost use Rattle.ops_reader.specs.Taken.{as_term};
-ghost use Rattle.ops_reader.specs.ActionReading.{term_sets_after, action_head, remove_after, write_after, action_after};
+ghost use Rattle.ops_reader.specs.ActionReading.{designator_of, action_head, make_after, modify_after, removed, remove_after, bind_after, write_after, action_after};
 ghost use Rattle.ops_reader.specs.Outcome.{Gives, Grows};
 
-use super::set::set_after;
-use crate::part::{ActionPart, SetPart, Step};
-use crate::take::{argument_of, symbol_of};
+use super::item::item_after;
+use super::term::{TermSets, term_after, term_sets_after};
+use crate::part::{ActionPart, ItemPart, Step, TermPart, TermSetPart};
+use crate::refusal::TokenRefusal;
+use crate::take::{symbol_of, variable_of};
 use crate::token::{Keyword, Token};
-use crate::{At, FormAction, FormArg, FormItem, FormTerm, FormsRefusal};
+use crate::{At, FormAction, FormItem};
 use ops_text::{Sequence, Symbols};
 use std::alloc::Global;
 
@@ -20,7 +21,7 @@ pub(crate) fn action_after(
     symbols: &mut Symbols,
     part: ActionPart,
     token: Token,
-) -> Result<Step<ActionPart, FormAction>, FormsRefusal>
+) -> Result<Step<ActionPart, FormAction>, TokenRefusal>
     requires { length symbols.old < 2 ^ 32 - 1 }
     ensures answer { Gives result symbols.new (action_after symbols.old part (seen token.entry)) }
     ensures grows { Grows symbols.old symbols.new }
@@ -28,91 +29,154 @@ pub(crate) fn action_after(
     match part {
         ActionPart::Nothing => match token {
             Token::Open => Ok(Step::Part(ActionPart::Head)),
-            _ => Err(FormsRefusal::NotBuilt { at: 0 }),
+            _ => Err(TokenRefusal::CannotStand),
         },
         ActionPart::Head => action_head(alloc, token),
-        ActionPart::Make => Ok(Step::Part(ActionPart::Sets {
+        ActionPart::Make => Ok(Step::Part(ActionPart::MakeSets {
             class: symbol_of(alloc, symbols, token)?,
             sets: Sequence::new(alloc),
-            set: SetPart::Nothing,
+            set: TermSetPart::Nothing,
         })),
-        ActionPart::Sets { class, sets, set } => {
-            sets_after(alloc, symbols, class, sets, set, token)
+        ActionPart::MakeSets { class, sets, set } => {
+            make_after(alloc, symbols, class, sets, set, token)
         }
-        ActionPart::Remove { at } => remove_after(at, token),
-        ActionPart::Write { items } => write_after(alloc, symbols, items, token),
+        ActionPart::Modify => Ok(Step::Part(ActionPart::ModifySets {
+            at: designator_of(alloc, symbols, token)?,
+            sets: Sequence::new(alloc),
+            set: TermSetPart::Nothing,
+        })),
+        ActionPart::ModifySets { at, sets, set } => {
+            modify_after(alloc, symbols, at, sets, set, token)
+        }
+        ActionPart::Remove { at } => remove_after(alloc, symbols, at, token),
+        ActionPart::Bind => Ok(Step::Part(ActionPart::Bound {
+            name: variable_of(alloc, symbols, token)?,
+            term: TermPart::Nothing,
+        })),
+        ActionPart::Bound { name, term } => bind_after(alloc, symbols, name, term, token),
+        ActionPart::Write { items, item } => write_after(alloc, symbols, items, item, token),
+        ActionPart::Closing(action) => match token {
+            Token::Close => Ok(Step::Whole(action)),
+            _ => Err(TokenRefusal::CannotStand),
+        },
     }
 }
 
 /// The head takes no name.
-fn action_head(alloc: Global, token: Token) -> Result<Step<ActionPart, FormAction>, FormsRefusal>
+fn action_head(alloc: Global, token: Token) -> Result<Step<ActionPart, FormAction>, TokenRefusal>
     ensures { (names : Names) → Gives result names (action_head names (seen token.entry)) }
 {
     match token {
         Token::Plain(_, Some(Keyword::Make)) => Ok(Step::Part(ActionPart::Make)),
+        Token::Plain(_, Some(Keyword::Modify)) => Ok(Step::Part(ActionPart::Modify)),
         Token::Plain(_, Some(Keyword::Remove)) => Ok(Step::Part(ActionPart::Remove {
             at: Sequence::new(alloc),
         })),
+        Token::Plain(_, Some(Keyword::Bind)) => Ok(Step::Part(ActionPart::Bind)),
         Token::Plain(_, Some(Keyword::Write)) => Ok(Step::Part(ActionPart::Write {
             items: Sequence::new(alloc),
+            item: ItemPart::Nothing,
         })),
-        _ => Err(FormsRefusal::NotBuilt { at: 0 }),
+        Token::Plain(_, Some(Keyword::Halt)) => {
+            Ok(Step::Part(ActionPart::Closing(FormAction::Halt)))
+        }
+        _ => Err(TokenRefusal::CannotStand),
     }
 }
 
-fn term_of(argument: FormArg) -> FormTerm
-    ensures { result ≡ as_term argument }
+fn designator_of(alloc: Global, symbols: &mut Symbols, token: Token) -> Result<At, TokenRefusal>
+    requires { length symbols.old < 2 ^ 32 - 1 }
+    ensures answer { Gives result symbols.new (designator_of symbols.old (seen token.entry)) }
+    ensures grows { Grows symbols.old symbols.new }
 {
-    match argument {
-        FormArg::Con(value) => FormTerm::Con(value),
-        FormArg::Name(name) => FormTerm::Name(name),
+    match token {
+        Token::Integer(number) => Ok(At::Number(number)),
+        _ => Ok(At::Name(variable_of(alloc, symbols, token)?)),
     }
 }
 
-fn sets_after(
+fn make_after(
     alloc: Global,
     symbols: &mut Symbols,
     class: u32,
-    mut sets: Sequence<(u32, FormTerm)>,
-    set: SetPart,
+    sets: TermSets,
+    set: TermSetPart,
     token: Token,
-) -> Result<Step<ActionPart, FormAction>, FormsRefusal>
+) -> Result<Step<ActionPart, FormAction>, TokenRefusal>
     requires { length symbols.old < 2 ^ 32 - 1 }
     ensures answer { Gives result symbols.new
-        (term_sets_after symbols.old class sets set (seen token.entry)) }
+        (make_after symbols.old class (sets, set) (seen token.entry)) }
     ensures grows { Grows symbols.old symbols.new }
 {
-    match (set, token) {
-        (SetPart::Attr(attr), _) => {
-            sets.push((attr, term_of(argument_of(alloc, symbols, token)?)))?;
-            Ok(Step::Part(ActionPart::Sets {
-                class,
-                sets,
-                set: SetPart::Nothing,
-            }))
-        }
-        (SetPart::Nothing, Token::Close) => Ok(Step::Whole(FormAction::Make { class, sets })),
+    match term_sets_after(alloc, symbols, sets, set, token)? {
+        Step::Part((sets, set)) => Ok(Step::Part(ActionPart::MakeSets { class, sets, set })),
+        Step::Whole(sets) => Ok(Step::Whole(FormAction::Make { class, sets })),
+    }
+}
+
+fn modify_after(
+    alloc: Global,
+    symbols: &mut Symbols,
+    at: At,
+    sets: TermSets,
+    set: TermSetPart,
+    token: Token,
+) -> Result<Step<ActionPart, FormAction>, TokenRefusal>
+    requires { length symbols.old < 2 ^ 32 - 1 }
+    ensures answer { Gives result symbols.new
+        (modify_after symbols.old at (sets, set) (seen token.entry)) }
+    ensures grows { Grows symbols.old symbols.new }
+{
+    match term_sets_after(alloc, symbols, sets, set, token)? {
+        Step::Part((sets, set)) => Ok(Step::Part(ActionPart::ModifySets { at, sets, set })),
+        Step::Whole(sets) => Ok(Step::Whole(FormAction::Modify { at, sets })),
+    }
+}
+
+fn remove_after(
+    alloc: Global,
+    symbols: &mut Symbols,
+    mut at: Sequence<At>,
+    token: Token,
+) -> Result<Step<ActionPart, FormAction>, TokenRefusal>
+    requires { length symbols.old < 2 ^ 32 - 1 }
+    ensures answer { Gives result symbols.new (remove_after symbols.old at (seen token.entry)) }
+    ensures grows { Grows symbols.old symbols.new }
+{
+    match token {
+        Token::Close => removed(at),
         _ => {
-            let set = set_after(alloc, symbols, set, token)?;
-            Ok(Step::Part(ActionPart::Sets { class, sets, set }))
+            at.push(designator_of(alloc, symbols, token)?)?;
+            Ok(Step::Part(ActionPart::Remove { at }))
         }
     }
 }
 
-/// Designators take no names.
-fn remove_after(
-    mut at: Sequence<At>,
-    token: Token,
-) -> Result<Step<ActionPart, FormAction>, FormsRefusal>
-    ensures { (names : Names) → Gives result names (remove_after names at (seen token.entry)) }
+/// The end takes no name.
+fn removed(at: Sequence<At>) -> Result<Step<ActionPart, FormAction>, TokenRefusal>
+    ensures { (names : Names) → Gives result names (removed names at) }
 {
-    match token {
-        Token::Integer(number) => {
-            at.push(At::Number(number))?;
-            Ok(Step::Part(ActionPart::Remove { at }))
-        }
-        Token::Close if !at.is_empty() => Ok(Step::Whole(FormAction::Remove { at })),
-        _ => Err(FormsRefusal::NotBuilt { at: 0 }),
+    if at.is_empty() {
+        return Err(TokenRefusal::CannotStand);
+    }
+    Ok(Step::Whole(FormAction::Remove { at }))
+}
+
+fn bind_after(
+    alloc: Global,
+    symbols: &mut Symbols,
+    name: u32,
+    term: TermPart,
+    token: Token,
+) -> Result<Step<ActionPart, FormAction>, TokenRefusal>
+    requires { length symbols.old < 2 ^ 32 - 1 }
+    ensures answer { Gives result symbols.new
+        (bind_after symbols.old name term (seen token.entry)) }
+    ensures grows { Grows symbols.old symbols.new }
+{
+    match term_after(alloc, symbols, term, token)? {
+        Step::Part(term) => Ok(Step::Part(ActionPart::Bound { name, term })),
+        Step::Whole(term) => Ok(Step::Part(ActionPart::Closing(FormAction::Bind { name, term }))),
     }
 }
 
@@ -120,17 +184,25 @@ fn write_after(
     alloc: Global,
     symbols: &mut Symbols,
     mut items: Sequence<FormItem>,
+    item: ItemPart,
     token: Token,
-) -> Result<Step<ActionPart, FormAction>, FormsRefusal>
+) -> Result<Step<ActionPart, FormAction>, TokenRefusal>
     requires { length symbols.old < 2 ^ 32 - 1 }
-    ensures answer { Gives result symbols.new (write_after symbols.old items (seen token.entry)) }
+    ensures answer { Gives result symbols.new
+        (write_after symbols.old items item (seen token.entry)) }
     ensures grows { Grows symbols.old symbols.new }
 {
-    match token {
-        Token::Close => Ok(Step::Whole(FormAction::Write { items })),
-        _ => {
-            items.push(FormItem::Put(term_of(argument_of(alloc, symbols, token)?)))?;
-            Ok(Step::Part(ActionPart::Write { items }))
+    if let (ItemPart::Nothing, Token::Close) = (&item, token) {
+        return Ok(Step::Whole(FormAction::Write { items }));
+    }
+    match item_after(alloc, symbols, item, token)? {
+        Step::Part(item) => Ok(Step::Part(ActionPart::Write { items, item })),
+        Step::Whole(whole) => {
+            items.push(whole)?;
+            Ok(Step::Part(ActionPart::Write {
+                items,
+                item: ItemPart::Nothing,
+            }))
         }
     }
 }

@@ -1,16 +1,17 @@
-//! Condition elements.
+//! Condition elements: a pattern alone, behind a minus, or in braces with an element variable.
 
-ghost use Rattle.std.specs.Prelude.{◌-◌, ◌^◌, ◌<◌, length};
+ghost use Rattle.std.specs.Prelude.{◌≡◌, ◌-◌, ◌^◌, ◌<◌, length};
 ghost use Rattle.ops_reader.specs.Token.{seen};
-ghost use Rattle.ops_reader.specs.CondReading.{tests_after, cond_after};
+ghost use Rattle.ops_reader.specs.CondReading.{condition_of, plain_after, negated_after, named_after, unnamed_after, cond_begun, brace_begun, cond_after};
 ghost use Rattle.ops_reader.specs.Outcome.{Gives, Grows};
 
-use super::set::set_after;
-use crate::part::{CondPart, SetPart, Step};
-use crate::take::{argument_of, symbol_of};
+use super::pattern::pattern_after;
+use crate::FormCond;
+use crate::part::{CondPart, Pattern, PatternPart, Step};
+use crate::refusal::TokenRefusal;
+use crate::take::variable_of;
 use crate::token::Token;
-use crate::{FormCond, FormsRefusal, Simple};
-use ops_text::{Sequence, Symbols};
+use ops_text::Symbols;
 use std::alloc::Global;
 
 pub(crate) fn cond_after(
@@ -18,61 +19,143 @@ pub(crate) fn cond_after(
     symbols: &mut Symbols,
     part: CondPart,
     token: Token,
-) -> Result<Step<CondPart, FormCond>, FormsRefusal>
+) -> Result<Step<CondPart, FormCond>, TokenRefusal>
     requires { length symbols.old < 2 ^ 32 - 1 }
     ensures answer { Gives result symbols.new (cond_after symbols.old part (seen token.entry)) }
     ensures grows { Grows symbols.old symbols.new }
 {
     match part {
-        CondPart::Nothing => match token {
-            Token::Open => Ok(Step::Part(CondPart::Open)),
-            _ => Err(FormsRefusal::NotBuilt { at: 0 }),
-        },
-        CondPart::Open => Ok(Step::Part(CondPart::Tests {
-            class: symbol_of(alloc, symbols, token)?,
-            tests: Sequence::new(alloc),
-            set: SetPart::Nothing,
-        })),
-        CondPart::Tests { class, tests, set } => {
-            tests_after(alloc, symbols, class, tests, set, token)
+        CondPart::Nothing => cond_begun(alloc, symbols, token),
+        CondPart::Plain(pattern) => plain_after(alloc, symbols, pattern, token),
+        CondPart::Negated(pattern) => negated_after(alloc, symbols, pattern, token),
+        CondPart::Brace => brace_begun(alloc, symbols, token),
+        CondPart::Named { name, pattern } => named_after(alloc, symbols, name, pattern, token),
+        CondPart::Unnamed(pattern) => unnamed_after(alloc, symbols, pattern, token),
+        CondPart::Behind(pattern) => {
+            let name = variable_of(alloc, symbols, token)?;
+            Ok(Step::Part(CondPart::Closing(condition_of(false, Some(name), pattern))))
         }
+        CondPart::Closing(cond) => match token {
+            Token::CloseBrace => Ok(Step::Whole(cond)),
+            _ => Err(TokenRefusal::CannotStand),
+        },
     }
 }
 
-fn tests_after(
+fn condition_of(negated: bool, named: Option<u32>, pattern: Pattern) -> FormCond
+    ensures { result ≡ condition_of negated named pattern }
+{
+    let Pattern { class, tests } = pattern;
+    FormCond {
+        negated,
+        named,
+        class,
+        tests,
+    }
+}
+
+fn cond_begun(
     alloc: Global,
     symbols: &mut Symbols,
-    class: u32,
-    mut tests: Sequence<(u32, Sequence<Simple>)>,
-    set: SetPart,
     token: Token,
-) -> Result<Step<CondPart, FormCond>, FormsRefusal>
+) -> Result<Step<CondPart, FormCond>, TokenRefusal>
     requires { length symbols.old < 2 ^ 32 - 1 }
-    ensures answer { Gives result symbols.new
-        (tests_after symbols.old class tests set (seen token.entry)) }
+    ensures answer { Gives result symbols.new (cond_begun symbols.old (seen token.entry)) }
     ensures grows { Grows symbols.old symbols.new }
 {
-    match (set, token) {
-        (SetPart::Attr(attr), _) => {
-            let argument = argument_of(alloc, symbols, token)?;
-            let mut test = Sequence::new(alloc);
-            test.push(Simple::Plain(argument))?;
-            tests.push((attr, test))?;
-            Ok(Step::Part(CondPart::Tests {
-                class,
-                tests,
-                set: SetPart::Nothing,
-            }))
-        }
-        (SetPart::Nothing, Token::Close) => Ok(Step::Whole(FormCond {
-            negated: false,
-            named: None,
-            class,
-            tests,
+    match token {
+        Token::Minus => Ok(Step::Part(CondPart::Negated(PatternPart::Nothing))),
+        Token::OpenBrace => Ok(Step::Part(CondPart::Brace)),
+        _ => plain_after(alloc, symbols, PatternPart::Nothing, token),
+    }
+}
+
+fn plain_after(
+    alloc: Global,
+    symbols: &mut Symbols,
+    pattern: PatternPart,
+    token: Token,
+) -> Result<Step<CondPart, FormCond>, TokenRefusal>
+    requires { length symbols.old < 2 ^ 32 - 1 }
+    ensures answer { Gives result symbols.new (plain_after symbols.old pattern (seen token.entry)) }
+    ensures grows { Grows symbols.old symbols.new }
+{
+    match pattern_after(alloc, symbols, pattern, token)? {
+        Step::Part(pattern) => Ok(Step::Part(CondPart::Plain(pattern))),
+        Step::Whole(pattern) => Ok(Step::Whole(condition_of(false, None, pattern))),
+    }
+}
+
+fn negated_after(
+    alloc: Global,
+    symbols: &mut Symbols,
+    pattern: PatternPart,
+    token: Token,
+) -> Result<Step<CondPart, FormCond>, TokenRefusal>
+    requires { length symbols.old < 2 ^ 32 - 1 }
+    ensures answer { Gives result symbols.new
+        (negated_after symbols.old pattern (seen token.entry)) }
+    ensures grows { Grows symbols.old symbols.new }
+{
+    match pattern_after(alloc, symbols, pattern, token)? {
+        Step::Part(pattern) => Ok(Step::Part(CondPart::Negated(pattern))),
+        Step::Whole(pattern) => Ok(Step::Whole(condition_of(true, None, pattern))),
+    }
+}
+
+fn brace_begun(
+    alloc: Global,
+    symbols: &mut Symbols,
+    token: Token,
+) -> Result<Step<CondPart, FormCond>, TokenRefusal>
+    requires { length symbols.old < 2 ^ 32 - 1 }
+    ensures answer { Gives result symbols.new (brace_begun symbols.old (seen token.entry)) }
+    ensures grows { Grows symbols.old symbols.new }
+{
+    match token {
+        Token::Variable(_) => Ok(Step::Part(CondPart::Named {
+            name: variable_of(alloc, symbols, token)?,
+            pattern: PatternPart::Nothing,
         })),
-        _ => {
-            let set = set_after(alloc, symbols, set, token)?;
-            Ok(Step::Part(CondPart::Tests { class, tests, set }))
-        }
+        _ => unnamed_after(alloc, symbols, PatternPart::Nothing, token),
+    }
+}
+
+fn named_after(
+    alloc: Global,
+    symbols: &mut Symbols,
+    name: u32,
+    pattern: PatternPart,
+    token: Token,
+) -> Result<Step<CondPart, FormCond>, TokenRefusal>
+    requires { length symbols.old < 2 ^ 32 - 1 }
+    ensures answer { Gives result symbols.new
+        (named_after symbols.old name pattern (seen token.entry)) }
+    ensures grows { Grows symbols.old symbols.new }
+{
+    match pattern_after(alloc, symbols, pattern, token)? {
+        Step::Part(pattern) => Ok(Step::Part(CondPart::Named { name, pattern })),
+        Step::Whole(pattern) => Ok(Step::Part(CondPart::Closing(condition_of(
+            false,
+            Some(name),
+            pattern,
+        )))),
+    }
+}
+
+fn unnamed_after(
+    alloc: Global,
+    symbols: &mut Symbols,
+    pattern: PatternPart,
+    token: Token,
+) -> Result<Step<CondPart, FormCond>, TokenRefusal>
+    requires { length symbols.old < 2 ^ 32 - 1 }
+    ensures answer { Gives result symbols.new
+        (unnamed_after symbols.old pattern (seen token.entry)) }
+    ensures grows { Grows symbols.old symbols.new }
+{
+    match pattern_after(alloc, symbols, pattern, token)? {
+        Step::Part(pattern) => Ok(Step::Part(CondPart::Unnamed(pattern))),
+        Step::Whole(pattern) => Ok(Step::Part(CondPart::Behind(pattern))),
     }
 }

@@ -3,16 +3,17 @@
 ghost use Rattle.std.specs.Prelude.{◌≡◌, ◌+◌, ◌-◌, ◌^◌, ◌<◌, ◌≤◌, length, IfOk};
 ghost use Rattle.ops_text.specs.Names.{Names};
 ghost use Rattle.ops_reader.specs.Token.{seen};
-ghost use Rattle.ops_reader.specs.FormReading.{attrs_after, sets_after, arrow_after, conds_after, actions_after, form_head, form_after};
+ghost use Rattle.ops_reader.specs.FormReading.{attrs_after, sets_after, arrow_after, conds_after, actions_after, form_head, strategy_after, watch_after, form_after};
 ghost use Rattle.ops_reader.specs.Outcome.{Gives, Grows};
 
 use super::action::action_after;
 use super::cond::cond_after;
 use super::set::set_after;
 use crate::part::{ActionPart, CondPart, FormPart, SetPart, Step};
-use crate::take::{constant_of, symbol_of};
+use crate::refusal::TokenRefusal;
+use crate::take::{literal_of, number_up_to, symbol_of};
 use crate::token::{Keyword, Token};
-use crate::{Form, FormAction, FormCond, FormsRefusal};
+use crate::{Form, FormAction, FormCond};
 use ops_text::{Sequence, Symbols};
 use rule_base::Value;
 use std::alloc::Global;
@@ -22,7 +23,7 @@ pub(crate) fn form_after(
     symbols: &mut Symbols,
     part: FormPart,
     token: Token,
-) -> Result<Step<FormPart, Form>, FormsRefusal>
+) -> Result<Step<FormPart, Form>, TokenRefusal>
     requires { length symbols.old < 2 ^ 32 - 1 }
     ensures answer { Gives result symbols.new (form_after symbols.old part (seen token.entry)) }
     ensures grows { Grows symbols.old symbols.new }
@@ -30,7 +31,7 @@ pub(crate) fn form_after(
     match part {
         FormPart::Nothing => match token {
             Token::Open => Ok(Step::Part(FormPart::Head)),
-            _ => Err(FormsRefusal::NotBuilt { at: 0 }),
+            _ => Err(TokenRefusal::CannotStand),
         },
         FormPart::Head => form_head(token),
         FormPart::Literalize => Ok(Step::Part(FormPart::Attrs {
@@ -60,19 +61,51 @@ pub(crate) fn form_after(
             actions,
             action,
         } => { actions_after(alloc, symbols, name, conds, actions, action, token) }
+        FormPart::Strategy => strategy_after(token),
+        FormPart::Watch => watch_after(token),
+        FormPart::Closing { form } => match token {
+            Token::Close => Ok(Step::Whole(form)),
+            _ => Err(TokenRefusal::CannotStand),
+        },
     }
 }
 
 /// The head takes no name.
-fn form_head(token: Token) -> Result<Step<FormPart, Form>, FormsRefusal>
+fn form_head(token: Token) -> Result<Step<FormPart, Form>, TokenRefusal>
     ensures { (names : Names) → Gives result names (form_head names (seen token.entry)) }
 {
     match token {
         Token::Plain(_, Some(Keyword::Literalize)) => Ok(Step::Part(FormPart::Literalize)),
         Token::Plain(_, Some(Keyword::Make)) => Ok(Step::Part(FormPart::Make)),
         Token::Plain(_, Some(Keyword::P)) => Ok(Step::Part(FormPart::P)),
-        _ => Err(FormsRefusal::NotBuilt { at: 0 }),
+        Token::Plain(_, Some(Keyword::Strategy)) => Ok(Step::Part(FormPart::Strategy)),
+        Token::Plain(_, Some(Keyword::Watch)) => Ok(Step::Part(FormPart::Watch)),
+        _ => Err(TokenRefusal::CannotStand),
     }
+}
+
+/// The word for a strategy takes no name.
+fn strategy_after(token: Token) -> Result<Step<FormPart, Form>, TokenRefusal>
+    ensures { (names : Names) → Gives result names (strategy_after names (seen token.entry)) }
+{
+    let mea = match token {
+        Token::Plain(_, Some(Keyword::Lex)) => false,
+        Token::Plain(_, Some(Keyword::Mea)) => true,
+        _ => return Err(TokenRefusal::CannotStand),
+    };
+    Ok(Step::Part(FormPart::Closing {
+        form: Form::Strategy { mea },
+    }))
+}
+
+/// A level takes no name.
+fn watch_after(token: Token) -> Result<Step<FormPart, Form>, TokenRefusal>
+    ensures { (names : Names) → Gives result names (watch_after names (seen token.entry)) }
+{
+    let level = number_up_to(3, token)?;
+    Ok(Step::Part(FormPart::Closing {
+        form: Form::Watch { level },
+    }))
 }
 
 fn attrs_after(
@@ -81,7 +114,7 @@ fn attrs_after(
     class: u32,
     mut attrs: Sequence<u32>,
     token: Token,
-) -> Result<Step<FormPart, Form>, FormsRefusal>
+) -> Result<Step<FormPart, Form>, TokenRefusal>
     requires { length symbols.old < 2 ^ 32 - 1 }
     ensures answer { Gives result symbols.new
         (attrs_after symbols.old class attrs (seen token.entry)) }
@@ -103,7 +136,7 @@ fn sets_after(
     mut sets: Sequence<(u32, Value)>,
     set: SetPart,
     token: Token,
-) -> Result<Step<FormPart, Form>, FormsRefusal>
+) -> Result<Step<FormPart, Form>, TokenRefusal>
     requires { length symbols.old < 2 ^ 32 - 1 }
     ensures answer { Gives result symbols.new
         (sets_after symbols.old class sets set (seen token.entry)) }
@@ -111,7 +144,7 @@ fn sets_after(
 {
     match (set, token) {
         (SetPart::Attr(attr), _) => {
-            sets.push((attr, constant_of(alloc, symbols, token)?))?;
+            sets.push((attr, literal_of(alloc, symbols, token)?))?;
             Ok(Step::Part(FormPart::Sets {
                 class,
                 sets,
@@ -133,7 +166,7 @@ fn conds_after(
     mut conds: Sequence<FormCond>,
     cond: CondPart,
     token: Token,
-) -> Result<Step<FormPart, Form>, FormsRefusal>
+) -> Result<Step<FormPart, Form>, TokenRefusal>
     requires { length symbols.old < 2 ^ 32 - 1 }
     ensures answer { Gives result symbols.new
         (conds_after symbols.old name conds cond (seen token.entry)) }
@@ -160,11 +193,11 @@ fn arrow_after(
     alloc: Global,
     name: u32,
     conds: Sequence<FormCond>,
-) -> Result<Step<FormPart, Form>, FormsRefusal>
+) -> Result<Step<FormPart, Form>, TokenRefusal>
     ensures { (names : Names) → Gives result names (arrow_after names name conds) }
 {
     if conds.is_empty() {
-        return Err(FormsRefusal::NotBuilt { at: 0 });
+        return Err(TokenRefusal::CannotStand);
     }
     Ok(Step::Part(FormPart::Actions {
         name,
@@ -182,7 +215,7 @@ fn actions_after(
     mut actions: Sequence<FormAction>,
     action: ActionPart,
     token: Token,
-) -> Result<Step<FormPart, Form>, FormsRefusal>
+) -> Result<Step<FormPart, Form>, TokenRefusal>
     requires { length symbols.old < 2 ^ 32 - 1 }
     ensures answer { Gives result symbols.new
         (actions_after symbols.old name conds actions action (seen token.entry)) }

@@ -1,12 +1,12 @@
-//! `^` and an attribute, before a test or a value.
+//! `^` and an attribute, before a value at the top level.
 
 ghost use Rattle.std.specs.Prelude.{◌-◌, ◌^◌, ◌<◌, length};
 ghost use Rattle.ops_reader.specs.Token.{seen};
 ghost use Rattle.ops_reader.specs.Taken.{set_after};
 ghost use Rattle.ops_reader.specs.Outcome.{Gives, Grows};
 
-use crate::FormsRefusal;
 use crate::part::SetPart;
+use crate::refusal::TokenRefusal;
 use crate::take::symbol_of;
 use crate::token::Token;
 use ops_text::Symbols;
@@ -17,7 +17,7 @@ pub(crate) fn set_after(
     symbols: &mut Symbols,
     set: SetPart,
     token: Token,
-) -> Result<SetPart, FormsRefusal>
+) -> Result<SetPart, TokenRefusal>
     requires { length symbols.old < 2 ^ 32 - 1 }
     ensures answer { Gives result symbols.new (set_after symbols.old set (seen token.entry)) }
     ensures grows { Grows symbols.old symbols.new }
@@ -25,6 +25,6 @@ pub(crate) fn set_after(
     match (set, token) {
         (SetPart::Nothing, Token::Caret) => Ok(SetPart::Caret),
         (SetPart::Caret, _) => Ok(SetPart::Attr(symbol_of(alloc, symbols, token)?)),
-        _ => Err(FormsRefusal::NotBuilt { at: 0 }),
+        _ => Err(TokenRefusal::CannotStand),
     }
 }
