@@ -1,0 +1,16 @@
+-- walks that are exact
+pub mod NumberLemmas
+pub mod WalkLemmas
+pub mod ExpressionLemmas
+pub mod FormLemmas
+-- what is checked is sound
+pub mod ResultLemmas
+pub mod ListLemmas
+pub mod ScopeLemmas
+pub mod TestLemmas
+pub mod ClassLemmas
+pub mod LeftSideLemmas
+pub mod TermLemmas
+pub mod RightSideLemmas
+pub mod CheckedLemmas
+pub mod KindLemmas

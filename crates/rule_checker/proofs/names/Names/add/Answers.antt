@@ -1,0 +1,9 @@
+-- A new name goes last.
+use Rattle.std.proofs.Common.{nat_eq}
+use Rattle.rule_checker.proofs.NumberLemmas.{list_any-unnumbered}
+use Rattle.rule_checker.proofs.names.Names.add.Goals as goal
+
+pub returns : goal.returns
+returns c =
+    let new = list_any-unnumbered (nat_eq c.args.name) c.args.self.now c.requires in
+    rw (c.in_ok-insert.ensures.keys, c.self.view_is, new)

@@ -1,0 +1,22 @@
+-- the program of forms, and the opening memory
+pub mod Checked
+pub mod Opening
+pub mod Laws
+pub mod Forms
+pub mod Outcome
+-- the rules, in the order in which a form is walked
+pub mod Walk
+pub mod Names
+pub mod Classes
+pub mod Makes
+pub mod Scope
+pub mod Tests
+pub mod LeftSide
+pub mod Expressions
+pub mod Terms
+pub mod RightSide
+pub mod Rules
+-- what the code keeps
+pub mod Kept
+-- worked rows
+pub mod Rows

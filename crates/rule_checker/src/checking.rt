@@ -1,0 +1,136 @@
+//! The checked program of forms.
+
+ghost use Rattle.std.specs.Prelude.{◌≡◌, ◌≤◌, Ok, IfOk, OnOk, IfErr};
+ghost use Rattle.rule_base.specs.declared.program.Program.{Program};
+ghost use Rattle.rule_base.specs.Sound.{IsSound};
+ghost use Rattle.ops_reader.specs.declared.form.Form.TheVariants as form;
+ghost use Rattle.rule_checker.specs.Outcome.{Tells, TellsForm};
+ghost use Rattle.rule_checker.specs.Checked.{with_make, with_form, no_program, checked};
+
+use crate::classes::Classes;
+use crate::makes::make_of;
+use crate::refusal::{CheckRefusal, Refusal};
+use crate::rules::Rules;
+use ops_reader::{Form, FormAction, FormCond, Forms};
+use ops_text::Sequence;
+use rule_base::{Program, Value};
+use std::alloc::Global;
+use std::marker::Model;
+
+/// The program of the forms so far.
+#[derive(Debug, Drop)]
+struct Declarations {
+    classes: Classes,
+    rules: Rules,
+    makes: Sequence<(u32, Sequence<Value>)>,
+}
+
+impl Model for Declarations {
+    ghost use Rattle.std.specs.Coded.{codes};
+    ghost use Rattle.rule_base.specs.declared.program.Program.{Program};
+    ghost use Rattle.rule_base.specs.contracts.expression.Operand as operand;
+
+    ghost Value = { Program };
+
+    ghost coded = { Prim.hlevel (codes, operand.the_row.coded) };
+
+    ghost view = { λ d. record { classes = d.classes; rules = d.rules; makes = d.makes } };
+}
+
+impl Declarations {
+    fn new(alloc: Global) -> Declarations
+        ensures { result ≡ no_program }
+    {
+        Declarations {
+            classes: Classes::new(alloc),
+            rules: Rules::new(alloc),
+            makes: Sequence::new(alloc),
+        }
+    }
+
+    fn with_make(
+        mut self,
+        alloc: Global,
+        class: u32,
+        sets: &[(u32, Value)],
+    ) -> Result<Declarations, Refusal>
+        ensures ok { IfOk result (λ next. with_make self class sets.now ≡ Ok next) }
+        ensures refused { IfErr result (Tells (with_make self class sets.now)) }
+    {
+        let make = make_of(alloc, &self.classes, class, sets)?;
+        self.makes.push(make)?;
+        Ok(self)
+    }
+
+    fn with_class(self, alloc: Global, name: u32, attrs: &[u32]) -> Result<Declarations, Refusal>
+        ensures ok { IfOk result
+            (λ next. with_form self (form.Literalize name attrs.now) ≡ Ok next) }
+        ensures refused { IfErr result (Tells (with_form self (form.Literalize name attrs.now))) }
+    {
+        let classes = self.classes.with_class(alloc, name, attrs)?;
+        Ok(Declarations { classes, ..self })
+    }
+
+    fn with_rule(
+        self,
+        alloc: Global,
+        name: u32,
+        conds: &[FormCond],
+        actions: &[FormAction],
+    ) -> Result<Declarations, Refusal>
+        ensures ok { IfOk result
+            (λ next. with_form self (form.P name conds.now actions.now) ≡ Ok next) }
+        ensures refused { IfErr result
+            (Tells (with_form self (form.P name conds.now actions.now))) }
+    {
+        let rules = self
+            .rules
+            .with_rule(alloc, &self.classes, name, conds, actions)?;
+        Ok(Declarations { rules, ..self })
+    }
+
+    fn with_form(self, alloc: Global, form: &Form) -> Result<Declarations, Refusal>
+        ensures ok { IfOk result (λ next. with_form self form.now ≡ Ok next) }
+        ensures refused { IfErr result (Tells (with_form self form.now)) }
+    {
+        match form {
+            Form::Literalize { class, attrs } => self.with_class(alloc, *class, attrs.as_slice()),
+            Form::P {
+                name,
+                conds,
+                actions,
+            } => self.with_rule(alloc, *name, conds.as_slice(), actions.as_slice()),
+            Form::Make { class, sets } => self.with_make(alloc, *class, sets.as_slice()),
+            Form::Strategy { .. } => Ok(self),
+            Form::Watch { .. } => Ok(self),
+        }
+    }
+
+    fn into_program(self) -> Program
+        ensures { result ≡ self }
+    {
+        Program {
+            classes: self.classes.into_list(),
+            rules: self.rules.into_list(),
+            makes: self.makes,
+        }
+    }
+}
+
+/// The program of these forms, or the first violated rule: the number of its form, from 1, and its kind.
+pub fn check(alloc: Global, forms: &Forms) -> Result<Program, CheckRefusal>
+    ensures ok { IfOk result (λ program. checked forms.now ≡ Ok program) }
+    ensures sound { IfOk result IsSound }
+    ensures refused { IfErr result (TellsForm (checked forms.now)) }
+{
+    let mut declarations = Declarations::new(alloc);
+    let mut checked = 0;
+    for form in forms.as_slice() {
+        match declarations.with_form(alloc, form) {
+            Ok(next) => declarations = next,
+            Err(refusal) => return Err(refusal.at(checked + 1)),
+        }
+        checked += 1;
+    }
+    Ok(declarations.into_program())
+}

@@ -1,0 +1,35 @@
+//! Laws of the definitions. Each function here does nothing: its contract is the law.
+
+ghost use Rattle.rule_checker.specs.Laws.{CheckedAreSound, ProgramKinds, MemoryFileKinds};
+ghost use Rattle.rule_checker.specs.Rows.Programs.{ArePrograms};
+ghost use Rattle.rule_checker.specs.Rows.Violations.{AreDeclarationViolations, AreConditionViolations, AreActionViolations};
+ghost use Rattle.rule_checker.specs.Rows.Openings.{AreOpenings};
+
+/// What short programs are checked to.
+pub fn programs()
+    ensures { ArePrograms }
+{}
+
+/// Which rule a short program violates first.
+pub fn violations()
+    ensures declarations { AreDeclarationViolations }
+    ensures conditions { AreConditionViolations }
+    ensures actions { AreActionViolations }
+{}
+
+/// What a memory file adds.
+pub fn openings()
+    ensures { AreOpenings }
+{}
+
+/// Checked programs are sound.
+pub fn checked_programs_are_sound()
+    ensures { CheckedAreSound }
+{}
+
+/// Violations of a program are never of the kind that only a memory file has, and those of a memory file
+/// are of three kinds.
+pub fn violations_are_of_these_kinds()
+    ensures program { ProgramKinds }
+    ensures memory_file { MemoryFileKinds }
+{}
