@@ -19,6 +19,8 @@ fn exit_number(status: Status) -> u8
         Status::Spent { .. } => 3,
         Status::ReadFault { .. } => 5,
         Status::WriteFault => 6,
+        Status::Syntax { .. } => 7,
+        Status::Check { .. } => 8,
         Status::TooLong { .. } => 9,
         Status::OutOfMemory => 10,
         Status::NotBuilt { .. } => 12,

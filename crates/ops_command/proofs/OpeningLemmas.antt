@@ -1,80 +1,98 @@
--- The elements of a program's makes are an opening.
-use Rattle.std.proofs.Common.{◌≡◌, ℕ, ◌+◌, ◌^◌, ◌<◌, ◌≤◌, List, [], ◌∷◌, ◌++◌, Option, Some, option_map, length, slice_get, refl, ap, arith, length-append, suc}
+-- The elements of makes are an opening.
+use Rattle.std.proofs.Common.{◌≡◌, ℕ, ◌+◌, ◌^◌, ◌<◌, List, [], ◌∷◌, ◌++◌, Some, Ok, length, fold, slice_get, sym, ap, ◌∙◌, subst, arith, length-append}
 use Rattle.std.specs.List.{AllByRecursion}
 use Rattle.rule_base.specs.declared.value.Value.{Value}
+use Rattle.rule_base.specs.declared.element.Element.{Element}
 use Rattle.rule_base.specs.declared.program.Class.{Class}
 use Rattle.rule_base.specs.declared.program.Program.{Program}
-use Rattle.rule_base.specs.Chains.{only_if}
-use Rattle.rule_base.specs.Memory.{tags_of, Rises, RisesFrom, HasSize, IsMemory}
+use Rattle.rule_base.specs.Memory.{tags_of, Rises, RisesFrom, HasSize}
 use Rattle.rule_base.specs.Opening.{AreConsecutive, IsOpening}
 use Rattle.rule_base.specs.Sound.{sizes_of, IsSound}
 use Rattle.ops_reader.specs.declared.form.Form.{Form}
 use Rattle.ops_reader.specs.declared.form.Form.TheVariants as form
-use Rattle.ops_command.specs.Turns.{after_each}
-use Rattle.ops_command.specs.Classes.{class_named, may_declare}
-use Rattle.ops_command.specs.Checked.{values_of, may_add, checked_rule, with_form, no_program, checked}
-use Rattle.ops_command.specs.Opening.{made_from, opening_memory}
-use Rattle.ops_command.proofs.TurnsLemmas.{and_then_some, map_some, only_if_some}
+use Rattle.rule_checker.specs.Forms.{at_form, after_forms}
+use Rattle.rule_checker.specs.Opening.{is_make, with_made, with_initial, opening_list}
+use Rattle.rule_checker.proofs.ResultLemmas.{passed}
+use Rattle.rule_checker.proofs.CheckedLemmas.{make_of-size, at_form-passes}
+use Rattle.ops_command.proofs.ChainLemmas.{same_ok}
 
--- what each step raises by at most one is raised by at most the number of steps
-after_each-counts : {S A : Type 0} (size : S → ℕ) (step : S → A → Option S) → ((s : S) (a : A) (t : S) → step s a ≡ Some t → size t ≤ size s + 1) → (s : S) (xs : List A) (t : S) → after_each step s xs ≡ Some t → size t ≤ size s + length xs
-after_each-counts size step one s [] t e = let same : size s ≡ size t = ap size (let is : s ≡ t = cc in is) in omega arith
-after_each-counts size step one s (a ∷ rest) t e =
-    let w = and_then_some (step s a) (λ after. after_each step after rest) t e in
-    omega (arith, one s a w.0 w.1, after_each-counts size step one w.0 rest t w.2)
+-- a make of a class has as many values as the class has attributes
+abbrev pub IsSized : List ℕ → ℕ × List Value → Type 0
+IsSized sizes make = slice_get sizes make.0 ≡ Some (length make.1)
 
--- a form adds at most one make
-with_form-makes : (p : Program) (f : Form) (q : Program) → with_form p f ≡ Some q → length q.makes ≤ length p.makes + 1
-with_form-makes p (form.Literalize class attrs) q e =
-    let w = only_if_some (may_declare p.classes class attrs) (record p { classes = p.classes ++ record { name = class; attrs = attrs } ∷ [] }) q e in
-    omega (arith, ap (λ (x : Program). length x.makes) w.1)
-with_form-makes p (form.P name conds actions) q e =
-    let w = and_then_some (only_if (may_add p.rules name) p) (λ (room : Program). option_map (λ rule. record room { rules = room.rules ++ rule ∷ [] }) (checked_rule room.classes name conds actions)) q e in
-    let may = only_if_some (may_add p.rules name) p w.0 w.1 in
-    let r = map_some (checked_rule w.0.classes name conds actions) (λ rule. record w.0 { rules = w.0.rules ++ rule ∷ [] }) q w.2 in
-    omega (arith, ap (λ (x : Program). length x.makes) may.1, ap (λ (x : Program). length x.makes) r.2)
-with_form-makes p (form.Make class sets) q e =
-    let c = and_then_some (class_named p.classes class) (λ (c : ℕ × Class). option_map (λ values. record p { makes = p.makes ++ (c.0, values) ∷ [] }) (values_of c.1.attrs sets)) q e in
-    let v = map_some (values_of c.0.1.attrs sets) (λ values. record p { makes = p.makes ++ (c.0.0, values) ∷ [] }) q c.2 in
-    omega (arith, ap (λ (x : Program). length x.makes) v.2, length-append p.makes ((c.0.0, v.0) ∷ []))
-with_form-makes p (form.Strategy mea) q e = absurd (cc)
-with_form-makes p (form.Watch level) q e = absurd (cc)
+-- the form of a make that is read gives one of the right size
+is_make-sized : (classes : List Class) (f : Form) (make : ℕ × List Value) → is_make classes f ≡ Ok make → IsSized (sizes_of classes) make
+is_make-sized classes (form.Make class sets) make e = make_of-size classes class sets make e
+is_make-sized classes (form.Literalize class attrs) make e = absurd (cc)
+is_make-sized classes (form.P name conds actions) make e = absurd (cc)
+is_make-sized classes (form.Strategy mea) make e = absurd (cc)
+is_make-sized classes (form.Watch level) make e = absurd (cc)
 
--- a program has no more makes than its text has forms
-pub checked-makes : (forms : List Form) (p : Program) → checked forms ≡ Some p → length p.makes ≤ length forms
-checked-makes forms p e = omega (arith, after_each-counts (λ (x : Program). length x.makes) with_form with_form-makes no_program forms p e)
+-- elements with the tags 1, 2, 3 and so on, each with as many values as its class has attributes
+record AreMade (sizes : List ℕ) (elements : List Element) : Type 0 where
+  pub consecutive : AreConsecutive 1 (tags_of elements)
+  pub sized : AllByRecursion (HasSize sizes) elements
 
-pub length-made_from : (tag : ℕ) (ms : List (ℕ × List Value)) → length (made_from tag ms) ≡ length ms
-length-made_from tag [] = refl
-length-made_from tag (m ∷ ms) = ap (λ n. suc n) (length-made_from (tag + 1) ms)
+consecutive_push : (next : ℕ) (elements : List Element) (e : Element) → AreConsecutive next (tags_of elements) → e.tag ≡ next + length elements → AreConsecutive next (tags_of (elements ++ e ∷ []))
+consecutive_push next [] e h tag = (omega (arith, tag), tt)
+consecutive_push next (first ∷ rest) e h tag = (h.0, consecutive_push (next + 1) rest e h.1 (omega (arith, tag)))
 
-made_from-rises : (below tag : ℕ) (ms : List (ℕ × List Value)) → below < tag → RisesFrom below (tags_of (made_from tag ms))
-made_from-rises below tag [] lt = tt
-made_from-rises below tag (m ∷ ms) lt = (lt, made_from-rises tag (tag + 1) ms (omega arith))
+sized_push : (sizes : List ℕ) (elements : List Element) (e : Element) → AllByRecursion (HasSize sizes) elements → HasSize sizes e → AllByRecursion (HasSize sizes) (elements ++ e ∷ [])
+sized_push sizes [] e h size = (size, tt)
+sized_push sizes (first ∷ rest) e h size = (h.0, sized_push sizes rest e h.1 size)
 
-pub made_from-Rises : (tag : ℕ) (ms : List (ℕ × List Value)) → Rises (tags_of (made_from tag ms))
-made_from-Rises tag [] = tt
-made_from-Rises tag (m ∷ ms) = made_from-rises tag (tag + 1) ms (omega arith)
+with_made-keeps : (sizes : List ℕ) (elements : List Element) (make : ℕ × List Value) → AreMade sizes elements → IsSized sizes make → AreMade sizes (with_made elements make)
+with_made-keeps sizes elements make made size =
+    let e : Element = record { tag = length elements + 1; class = make.0; values = make.1 } in record {
+      consecutive = consecutive_push 1 elements e made.consecutive (omega arith);
+      sized = sized_push sizes elements e made.sized size;
+    }
 
-made_from-sized : (sizes : List ℕ) (tag : ℕ) (ms : List (ℕ × List Value)) → AllByRecursion (λ (make : ℕ × List Value). slice_get sizes make.0 ≡ Some (length make.1)) ms → AllByRecursion (HasSize sizes) (made_from tag ms)
-made_from-sized sizes tag [] sound = tt
-made_from-sized sizes tag (m ∷ ms) sound = (sound.0, made_from-sized sizes (tag + 1) ms sound.1)
+with_made-counts : (elements : List Element) (make : ℕ × List Value) → length (with_made elements make) ≡ length elements + 1
+with_made-counts elements make = length-append elements (record { tag = length elements + 1; class = make.0; values = make.1 } ∷ [])
 
--- the opening is a working memory
-pub opening_memory-IsMemory : (p : Program) → IsSound p → IsMemory (sizes_of p.classes) (opening_memory p)
-opening_memory-IsMemory p sound = record {
-  rising = made_from-Rises 1 p.makes;
-  sized = made_from-sized (sizes_of p.classes) 1 p.makes sound.sound_makes;
-}
+-- the makes of the program
+makes_made : (sizes : List ℕ) (elements : List Element) (makes : List (ℕ × List Value)) → AreMade sizes elements → AllByRecursion (IsSized sizes) makes → AreMade sizes (fold with_made elements makes)
+makes_made sizes elements [] made h = made
+makes_made sizes elements (make ∷ makes) made h = makes_made sizes (with_made elements make) makes (with_made-keeps sizes elements make made h.0) h.1
 
-made_from-consecutive : (tag : ℕ) (ms : List (ℕ × List Value)) → AreConsecutive tag (tags_of (made_from tag ms))
-made_from-consecutive tag [] = tt
-made_from-consecutive tag (m ∷ ms) = (refl, made_from-consecutive (tag + 1) ms)
+makes_counted : (elements : List Element) (makes : List (ℕ × List Value)) → length (fold with_made elements makes) ≡ length elements + length makes
+makes_counted elements [] = omega arith
+makes_counted elements (make ∷ makes) = omega (arith, makes_counted (with_made elements make) makes, with_made-counts elements make)
 
--- the elements of a sound program's makes are an opening
-pub opening_memory-IsOpening : (p : Program) → IsSound p → length p.makes < 2 ^ 62 → IsOpening (sizes_of p.classes) (opening_memory p)
-opening_memory-IsOpening p sound few = record {
-  memory = opening_memory-IsMemory p sound;
-  consecutive = made_from-consecutive 1 p.makes;
-  few = omega (arith, length-made_from 1 p.makes);
-}
+-- one form more of the memory file
+with_initial-made : (classes : List Class) (elements : List Element) (f : Form) (next : List Element) → AreMade (sizes_of classes) elements → with_initial classes elements f ≡ Ok next → AreMade (sizes_of classes) next × (length next ≡ length elements + 1)
+with_initial-made classes elements f next made e =
+    let make = passed (is_make classes f) (λ make. Ok (with_made elements make)) next e in (
+      subst (AreMade (sizes_of classes)) (same_ok make.2) (with_made-keeps (sizes_of classes) elements make.0 made (is_make-sized classes f make.0 make.1)),
+      sym (ap length (same_ok make.2)) ∙ with_made-counts elements make.0,
+    )
+
+forms_made : (classes : List Class) (number : ℕ) (elements : List Element) (forms : List Form) (done : List Element) → AreMade (sizes_of classes) elements → after_forms (with_initial classes) number elements forms ≡ Ok done
+    → AreMade (sizes_of classes) done × (length done ≡ length elements + length forms)
+forms_made classes number elements [] done made e = (subst (AreMade (sizes_of classes)) (same_ok e) made, omega (arith, ap length (same_ok e)))
+forms_made classes number elements (f ∷ forms) done made e =
+    let next = passed (at_form number (with_initial classes elements f)) (λ next. after_forms (with_initial classes) (number + 1) next forms) done e in
+    let one = with_initial-made classes elements f next.0 made (at_form-passes number (with_initial classes elements f) next.0 next.1) in
+    let rest = forms_made classes (number + 1) next.0 forms done one.0 next.2 in
+    (rest.0, omega (arith, rest.1, one.1))
+
+-- numbers one after another rise
+consecutive_rises : (below next : ℕ) (ns : List ℕ) → below < next → AreConsecutive next ns → RisesFrom below ns
+consecutive_rises below next [] lt h = tt
+consecutive_rises below next (n ∷ ns) lt h = (omega (arith, lt, h.0), consecutive_rises n (next + 1) ns (omega (arith, h.0)) h.1)
+
+consecutive_Rises : (next : ℕ) (ns : List ℕ) → AreConsecutive next ns → Rises ns
+consecutive_Rises next [] h = tt
+consecutive_Rises next (n ∷ ns) h = consecutive_rises n (next + 1) ns (omega (arith, h.0)) h.1
+
+-- the opening memory of a sound program is an opening
+pub opening_list-IsOpening : (program : Program) (forms : List Form) (elements : List Element) → IsSound program → length program.makes < 2 ^ 32 → length forms < 2 ^ 32 → opening_list program forms ≡ Ok elements → IsOpening (sizes_of program.classes) elements
+opening_list-IsOpening program forms elements sound few_makes few_forms e =
+    let sizes = sizes_of program.classes in
+    let own = makes_made sizes [] program.makes (record { consecutive = tt; sized = tt }) sound.sound_makes in
+    let done = forms_made program.classes 1 (fold with_made [] program.makes) forms elements own e in record {
+      memory = record { rising = consecutive_Rises 1 (tags_of elements) done.0.consecutive; sized = done.0.sized };
+      consecutive = done.0.consecutive;
+      few = omega (arith, done.1, makes_counted [] program.makes, few_makes, few_forms);
+    }

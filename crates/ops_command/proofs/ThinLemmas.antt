@@ -28,8 +28,8 @@ use Rattle.rule_base.specs.State.{State, opening}
 use Rattle.rule_base.specs.Step.{effect_of, may_fire, committed, step}
 use Rattle.rule_base.specs.Run.{run}
 use Rattle.rule_base.specs.Ending.{IsFault}
-use Rattle.rule_base.specs.Thin.{is_thin_term, is_thin_item, is_thin_action, is_thin_cond, is_thin_rule, is_thin}
-use Rattle.ops_command.proofs.TurnsLemmas.{and_then_some, map_some, only_if_some, both}
+use Rattle.rule_base.specs.Thin.{is_thin_term, is_thin_item, is_thin_action, is_thin_rule, is_thin}
+use Rattle.ops_command.proofs.ChainLemmas.{and_then_some, map_some, only_if_some, both}
 
 -- a thin term has a value
 term_value-thin : (bindings : Bindings) (t : Term) → is_thin_term t ≡ true → (v : Value) × (term_value bindings t ≡ Ok v)
@@ -97,8 +97,7 @@ after_actions-thin number elements (first ∷ actions) p thin =
 -- the effect of a thin rule is one that doesn't halt
 effect-thin : (rule : Rule) (elements : List Element) → is_thin_rule rule ≡ true → (done : Effect) × (effect rule elements ≡ Ok done) × (done.halts ≡ false)
 effect-thin rule elements thin =
-    let b = both (list_all is_thin_cond rule.conds) (list_all is_thin_action rule.actions) thin in
-    let q = after_actions-thin 1 elements rule.actions (beginning rule elements) b.1 in
+    let q = after_actions-thin 1 elements rule.actions (beginning rule elements) thin in
     (q.0.done, ap (λ (r : Result Progress Failure). r >>= λ (p : Progress). Ok p.done) q.1, q.2)
 
 thin_at : (rules : List Rule) (i : ℕ) (rule : Rule) → list_all is_thin_rule rules ≡ true → slice_get rules i ≡ Some rule → is_thin_rule rule ≡ true

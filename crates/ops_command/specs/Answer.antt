@@ -1,64 +1,66 @@
--- Every answer of the command and its cause: what a call is to say, under which status, and what it does.
-use Rattle.std.specs.Prelude.{◌≡◌, ℕ, List, codes}
-use Rattle.rule_base.specs.declared.entry.Ending.TheVariants as ending
-use Rattle.rule_base.specs.declared.program.Program.{Program}
-use Rattle.ops_text.specs.Names.{Names}
+-- Every answer of the command and its cause: what a call is to say, and what it does.
+use Rattle.std.specs.Prelude.{◌≡◌, ◌⊎◌, ℕ, List, Err}
 use Rattle.ops_text.specs.Faults.{Rose}
 use Rattle.ops_text.specs.Output.{Extends, ExtendsInPart}
-use Rattle.ops_command.specs.declared.status.UsageKind.TheVariants as usage
-use Rattle.ops_command.specs.declared.status.FileKind.TheVariants as file
+use Rattle.ops_command.specs.declared.status.UsageKind.{UsageKind}
 use Rattle.ops_command.specs.declared.status.Status.{Status}
 use Rattle.ops_command.specs.declared.status.Status.TheVariants as status
 use Rattle.ops_command.specs.declared.status.Report.{Report}
-use Rattle.ops_command.specs.Words.{AsksFor}
+use Rattle.ops_command.specs.Words.{Asked, asked_by, AsksFor}
 use Rattle.ops_command.specs.Call.{Files, Call}
-use Rattle.ops_command.specs.Findings.{Findings, findings_of, no_findings}
-use Rattle.ops_command.specs.ProgramFile.{WereRead}
-use Rattle.ops_command.specs.Usage.{IsUsage}
-use Rattle.ops_command.specs.ReadFault.{IsReadFault}
-use Rattle.ops_command.specs.TooLong.{IsTooLong}
-use Rattle.ops_command.specs.NotBuilt.{IsNotBuilt}
-use Rattle.ops_command.specs.Ran.{IsRunOf, HasRun}
+use Rattle.ops_command.specs.Findings.{findings_of, no_findings}
+use Rattle.ops_command.specs.Account.{Account, refusal}
+use Rattle.ops_command.specs.ProgramText.{NamedProgram}
+use Rattle.ops_command.specs.ProgramFile.{GivesProgram, IsRefusedProgram}
+use Rattle.ops_command.specs.MemoryText.{NamedOpening}
+use Rattle.ops_command.specs.MemoryFile.{GivesOpening, IsRefusedMemory}
+use Rattle.ops_command.specs.Ran.{Start, Ran}
 
--- what is to be said of a program with these names
-abbrev pub IsRunPlan : Program → Names → Findings → List ℕ → Status → Type 0
-IsRunPlan program names found text status.Quiet = IsRunOf program names found text ending.Quiet (codes "quiet")
-IsRunPlan program names found text (status.Spent n) = IsRunOf program names found text (ending.Spent n) (codes "spent")
-IsRunPlan program names found text other = ⊥
+-- the words are faulty
+pub record IsUsage (words : List (List ℕ)) (account : Account) : Type 0 where
+  pub kind : UsageKind
+  pub faulty : asked_by words ≡ Err kind
+  pub said : account ≡ refusal (status.Usage kind)
 
--- what is to be said of the bytes of a program file: these findings and this text, under this status
-abbrev pub IsPlanOf : List ℕ → Findings → List ℕ → Status → Type 0
-IsPlanOf bytes found text status.Quiet = HasRun bytes found text ending.Quiet (codes "quiet")
-IsPlanOf bytes found text (status.Spent n) = HasRun bytes found text (ending.Spent n) (codes "spent")
-IsPlanOf bytes found text (status.NotBuilt at) = IsNotBuilt bytes found text at
-IsPlanOf bytes found text other = ⊥
+-- the program has an opening memory, and ran from it
+pub record RanFromOpening (files : Files) (asked : Asked) (named : NamedProgram) (account : Account) : Type 0 where
+  pub opening : NamedOpening
+  pub opens : GivesOpening files.told asked.memory named opening
+  pub ran : Ran (record { program = named.program; elements = opening.elements; budget = asked.budget; names = opening.names }) account
 
--- what is to be said of the file with this name
-abbrev pub IsPlanFor : Files → List ℕ → Findings → List ℕ → Status → Type 0
-IsPlanFor files name found text (status.ReadFault file.Program) = IsReadFault files name found text
-IsPlanFor files name found text (status.TooLong file.Program) = IsTooLong files name found text
-IsPlanFor files name found text other = WereRead files name (λ bytes. IsPlanOf bytes found text other)
+-- what is to be said of this program: its memory file is refused, or it ran
+abbrev pub IsSaidOfProgram : Files → Asked → NamedProgram → Account → Type 0
+IsSaidOfProgram files asked named account = IsRefusedMemory files asked.memory named account ⊎ RanFromOpening files asked named account
 
--- what is to be said where these words ask
-abbrev pub IsPlan : List (List ℕ) → Files → Findings → List ℕ → Status → Type 0
-IsPlan words files found text (status.Usage usage.Words) = IsUsage words found text
-IsPlan words files found text other = AsksFor words (λ name. IsPlanFor files name found text other)
+-- there is a program, and this is to be said of it
+pub record IsSaidOfGiven (files : Files) (asked : Asked) (account : Account) : Type 0 where
+  pub named : NamedProgram
+  pub gives : GivesProgram files.told asked.program named
+  pub said : IsSaidOfProgram files asked named account
 
--- the report says what is to be said of the call under this status, which has this text
-abbrev pub IsPlanned : Call → Report → List ℕ → Status → Type 0
-IsPlanned call report text said = IsPlan call.words call.files (findings_of report) text said
+-- what is to be said where this is asked for: the program file is refused, or what its program comes to
+abbrev pub IsSaidOf : Files → Asked → Account → Type 0
+IsSaidOf files asked account = IsRefusedProgram files asked.program account ⊎ IsSaidOfGiven files asked account
+
+-- what is to be said of words: that they are faulty, or what they ask for comes to
+abbrev pub IsSaidOfWords : List (List ℕ) → Files → Account → Type 0
+IsSaidOfWords words files account = IsUsage words account ⊎ AsksFor words (λ asked. IsSaidOf files asked account)
+
+-- what the report says is to be said of the call under this status, with this text
+abbrev pub IsSaid : Call → Report → List ℕ → Status → Type 0
+IsSaid call report text said = IsSaidOfWords call.words call.files (record { status = said; found = findings_of report; text = text })
 
 -- all was said: the output grew by just the text
 pub record IsWritten (call : Call) (report : Report) (said : Status) : Type 0 where
   pub text : List ℕ
-  pub planned : IsPlanned call report text said
+  pub is_said : IsSaid call report text said
   pub written : Extends call.output.held call.output.held_after text
 
 -- the output failed: its count of faults rose, and a part of the text that was to be written was
 pub record IsWriteFault (call : Call) (report : Report) : Type 0 where
   pub said : Status
   pub text : List ℕ
-  pub planned : IsPlanned call report text said
+  pub is_said : IsSaid call report text said
   pub part : ExtendsInPart call.output.held call.output.held_after text
   pub fault : Rose call.output.faults call.output.faults_after
 

@@ -1,15 +1,15 @@
--- The bytes of the program file.
-use Rattle.std.specs.Prelude.{◌≡◌, ℕ, ◌≤◌, List, length}
-use Rattle.std.specs.Option.{ForSome}
+-- What a program file comes to: a program, or the reason why there is none.
+use Rattle.std.specs.Prelude.{◌⊎◌, ℕ, List, Option}
+use Rattle.ops_command.specs.declared.status.FileKind.TheVariants as file
 use Rattle.ops_command.specs.Call.{Files}
+use Rattle.ops_command.specs.Account.{Account}
+use Rattle.ops_command.specs.FileBytes.{WereRead, IsUnread}
+use Rattle.ops_command.specs.ProgramText.{NamedProgram, Defines, IsFaultyProgram}
 
--- how many bytes a program file may have
-abbrev pub most_bytes : ℕ
-most_bytes = 4194304
+-- bytes of the file with this name were read, and they define this program
+abbrev pub GivesProgram : (List ℕ → Option (List ℕ)) → List ℕ → NamedProgram → Type 0
+GivesProgram told name named = WereRead told name (λ bytes. Defines bytes named)
 
--- bytes were read, of which this holds: those of the file with this name, as far as it is told, and not too many
-pub record WereRead (files : Files) (name : List ℕ) (P : List ℕ → Type 0) : Type 0 where
-  pub bytes : List ℕ
-  pub told : ForSome (files.told name) (λ file. bytes ≡ file)
-  pub short : length bytes ≤ most_bytes
-  pub holds : P bytes
+-- the file with this name gives no program that runs today, and why
+abbrev pub IsRefusedProgram : Files → List ℕ → Account → Type 0
+IsRefusedProgram files name account = IsUnread files name file.Program account ⊎ WereRead files.told name (λ bytes. IsFaultyProgram bytes account)

@@ -1,22 +1,35 @@
--- The program that the bytes of a file define.
-use Rattle.std.specs.Prelude.{◌≡◌, ℕ, List, [], ◌∷◌, codes, None, Some}
+-- The program that the bytes of a file define, or what is wrong with them.
+use Rattle.std.specs.Prelude.{◌≡◌, ◌⊎◌, ℕ, List, [], ◌∷◌, codes, true, Ok}
 use Rattle.rule_base.specs.declared.program.Program.{Program}
+use Rattle.rule_base.specs.Thin.{is_thin}
 use Rattle.ops_text.specs.Names.{Names}
 use Rattle.ops_reader.specs.declared.form.Form.{Form}
 use Rattle.ops_reader.specs.Tokens.{tokens_of}
 use Rattle.ops_reader.specs.Grammar.{IsText}
-use Rattle.ops_command.specs.Checked.{checked}
+use Rattle.rule_checker.specs.Checked.{checked}
+use Rattle.ops_command.specs.declared.status.FileKind.TheVariants as file
+use Rattle.ops_command.specs.Account.{Account}
+use Rattle.ops_command.specs.FaultyText.{IsSyntaxError, IsCheckError}
+use Rattle.ops_command.specs.NotBuilt.{IsNotBuilt}
 
 -- the names that a program is read with: `nil` alone
 abbrev pub first_names : Names
 first_names = codes "nil" ∷ []
 
--- the bytes are the text of forms that declare this program, and leave these names
-pub record Defines (bytes : List ℕ) (names : Names) (program : Program) : Type 0 where
-  pub forms : List Form
-  pub text : IsText first_names forms (tokens_of bytes) names
-  pub declares : checked forms ≡ Some program
+-- a program, with the names that its text leaves
+pub record NamedProgram : Type 0 where
+  pub program : Program
+  pub names : Names
 
--- the bytes define no program: they are the text of no forms, or of forms that break a rule
-abbrev pub DefinesNone : List ℕ → Type 0
-DefinesNone bytes = (forms : List Form) (names : Names) → IsText first_names forms (tokens_of bytes) names → checked forms ≡ None
+-- the bytes are the text of forms that declare this program, and leave these names; each rule of it is thin
+pub record Defines (bytes : List ℕ) (named : NamedProgram) : Type 0 where
+  pub forms : List Form
+  pub text : IsText first_names forms (tokens_of bytes) named.names
+  pub declares : checked forms ≡ Ok named.program
+  pub thin : is_thin named.program ≡ true
+
+-- the bytes define no program that runs today, and why
+abbrev pub IsFaultyProgram : List ℕ → Account → Type 0
+IsFaultyProgram bytes account =
+    IsSyntaxError first_names bytes file.Program account ⊎ IsCheckError checked first_names bytes file.Program account
+    ⊎ IsNotBuilt first_names bytes account

@@ -1,23 +1,25 @@
-//! The command `ops`: from the bytes of a program file to the report of its run. It knows no tokens and
-//! no firings, which the crates below it read and do.
+//! The command `ops`: from the words of a command line and the bytes of its files to the report of a run. It knows no
+//! tokens, no rules of the language and no firings, which the crates below it read, check and do.
 #![tactic(auto)]
 
-mod checked;
-mod classes;
 mod command;
-pub mod laws;
-mod left_side;
-mod opening;
+mod file_bytes;
+mod memory_file;
 mod page;
 mod plan;
-mod right_side;
+mod program_file;
+mod refusals;
 mod run;
 mod run_report;
 mod status;
 #[cfg(test)]
 mod tests;
-mod variables;
+mod text;
+mod thin;
+mod unbuilt;
 mod words;
 
 pub use command::run_without_threads;
+pub use ops_reader::SyntaxKind;
+pub use rule_checker::CheckKind;
 pub use status::{FileKind, Report, Status, UsageKind};

@@ -1,28 +1,25 @@
-//! What a call is to say. All of it is made before its first byte is written, a layer at a time: the
-//! words, the file, its bytes, the forms, the run.
+//! What a call is to say. All of it is made before its first byte is written, a layer at a time: the words, the program
+//! file, the memory file, the run.
 
-ghost use Rattle.std.specs.Prelude.{◌≡◌, ℕ, ◌^◌, ◌<◌, ◌≤◌, List, true, None, Some, length, map, IfOk};
+ghost use Rattle.std.specs.Prelude.{◌≡◌, ◌+◌, ◌^◌, ◌<◌, ◌≤◌, ℕ, List, true, length, map, IfOk, IfErr};
 ghost use Rattle.std.specs.String.{string_bytes};
-ghost use Rattle.ops_reader.specs.Tokens.{tokens_of};
-ghost use Rattle.ops_reader.specs.Grammar.{IsText};
-ghost use Rattle.ops_command.specs.Call.{Files};
-ghost use Rattle.ops_command.specs.Findings.{findings_of, no_findings};
-ghost use Rattle.ops_command.specs.ProgramFile.{most_bytes};
-ghost use Rattle.ops_command.specs.ProgramText.{first_names};
-ghost use Rattle.ops_command.specs.Refusals.{not_built_line};
-ghost use Rattle.ops_command.specs.Answer.{IsPlan, IsPlanFor, IsPlanOf, IsRunPlan};
+ghost use Rattle.rule_base.specs.Sound.{IsSound};
+ghost use Rattle.rule_base.specs.Thin.{is_thin};
+ghost use Rattle.ops_command.specs.Words.{IsBudget};
+ghost use Rattle.ops_command.specs.Asking.{asked_of};
+ghost use Rattle.ops_command.specs.Account.{refusal, account_of, IsRefusal};
+ghost use Rattle.ops_command.specs.FileBytes.{most_bytes};
+ghost use Rattle.ops_command.specs.Answer.{IsSaidOfWords, IsSaidOf, IsSaidOfProgram};
 
-use crate::checked::checked_program;
+use crate::memory_file::read_opening;
+use crate::program_file::read_program;
+use crate::refusals::refusal_line;
 use crate::run::plan_run;
-use crate::run_report::put_decimal;
-use crate::status::{FileKind, Report, Status, UsageKind};
-use crate::words::program_asked;
-use ops_reader::{FormsRefusal, read_forms};
-use ops_text::{OutOfMemory, ReadRefusal, Shelf, Symbols, read_all};
+use crate::status::{Report, Status};
+use crate::words::{Request, requested};
+use ops_text::{OutOfMemory, Shelf, Symbols};
+use rule_base::Program;
 use std::alloc::Global;
-
-/// The most bytes of a program file.
-const MOST_BYTES: u64 = 4_194_304;
 
 /// What is to be said: the report, and the text that is to be written.
 #[derive(Debug, Drop)]
@@ -31,89 +28,90 @@ pub struct Plan {
     pub text: Vec<u8>,
 }
 
-// Nothing runs, and a line says why.
-fn refusal(alloc: Global, status: Status, line: &[u8]) -> Result<Plan, OutOfMemory>
-    ensures status { IfOk result (λ plan. plan.report.status ≡ status) }
-    ensures nothing { IfOk result (λ plan. findings_of plan.report ≡ no_findings) }
-    ensures line { IfOk result (λ plan. plan.text.items ≡ line.now) }
-{
-    Ok(Plan {
-        report: Report::of_no_run(alloc, status),
-        text: Vec::from_slice(alloc, line)?,
-    })
-}
-
 /// What is to be said where these words ask.
 pub fn plan_words<F: Shelf>(
     alloc: Global,
     words: &[String],
     shelf: &mut F,
 ) -> Result<Plan, OutOfMemory>
-    ensures { IfOk result (λ plan. IsPlan
+    ensures { IfOk result (λ plan. IsSaidOfWords
         (map string_bytes words.now)
         (record { told = F.told shelf.old; faults = F.faults shelf.old; faults_after = F.faults shelf.new })
-        (findings_of plan.report) plan.text.items plan.report.status) }
+        (account_of plan)) }
 {
-    match program_asked(words) {
-        Some(name) => plan_file(alloc, name, shelf),
-        None => {
-            let kind = UsageKind::Words;
-            refusal(alloc, Status::Usage { kind }, b"ops: usage: words\n")
-        }
+    match run_words(alloc, words, shelf) {
+        Ok(plan) => Ok(plan),
+        Err(Status::OutOfMemory) => Err(OutOfMemory),
+        Err(status) => refusal(alloc, status),
     }
 }
 
-// What is to be said of the file with this name.
-fn plan_file<F: Shelf>(alloc: Global, name: &str, shelf: &mut F) -> Result<Plan, OutOfMemory>
-    ensures { IfOk result (λ plan. IsPlanFor
-        (record { told = F.told shelf.old; faults = F.faults shelf.old; faults_after = F.faults shelf.new })
-        name.now (findings_of plan.report) plan.text.items plan.report.status) }
+// Nothing runs, and a line says why.
+fn refusal(alloc: Global, status: Status) -> Result<Plan, OutOfMemory>
+    ensures { IfOk result (λ plan. account_of plan ≡ refusal status) }
 {
-    let file = FileKind::Program;
-    match read_all(alloc, shelf, name, MOST_BYTES) {
-        Ok(bytes) => plan_bytes(alloc, bytes.as_slice()),
-        Err(ReadRefusal::ReadFault) => refusal(
-            alloc,
-            Status::ReadFault { file },
-            b"ops: cannot read program\n",
-        ),
-        Err(ReadRefusal::TooLong) => refusal(
-            alloc,
-            Status::TooLong { file },
-            b"ops: program is too long\n",
-        ),
-        Err(ReadRefusal::OutOfMemory) => Err(OutOfMemory),
-    }
-}
-
-// What is to be said of these bytes.
-fn plan_bytes(alloc: Global, bytes: &[u8]) -> Result<Plan, OutOfMemory>
-    requires { length bytes.now ≤ most_bytes }
-    ensures { IfOk result
-        (λ plan. IsPlanOf bytes.now (findings_of plan.report) plan.text.items plan.report.status) }
-{
-    let mut symbols = Symbols::new(alloc)?;
-    match read_forms(alloc, bytes, &mut symbols) {
-        Ok(forms) => match checked_program(alloc, forms.as_slice())? {
-            Some(program) => plan_run(alloc, program, &symbols),
-            None => not_built(alloc, 0),
-        },
-        Err(FormsRefusal::NotBuilt { at }) => not_built(alloc, at),
-        Err(FormsRefusal::OutOfMemory) => Err(OutOfMemory),
-    }
-}
-
-// The text isn't one of those that run today.
-fn not_built(alloc: Global, at: u64) -> Result<Plan, OutOfMemory>
-    ensures status { IfOk result (λ plan. plan.report.status ≡ Status.NotBuilt at) }
-    ensures nothing { IfOk result (λ plan. findings_of plan.report ≡ no_findings) }
-    ensures line { IfOk result (λ plan. plan.text.items ≡ not_built_line at) }
-{
-    let mut line = Vec::from_slice(alloc, b"ops: not built at byte ")?;
-    put_decimal(at, &mut line)?;
-    line.extend_from_slice(b"\n")?;
+    let line = refusal_line(alloc, status)?;
     Ok(Plan {
-        report: Report::of_no_run(alloc, Status::NotBuilt { at }),
-        text: line,
+        report: Report::of_no_run(alloc, status),
+        text: line.into_bytes(),
     })
+}
+
+// The run that the words ask for, or the status under which nothing runs.
+fn run_words<F: Shelf>(alloc: Global, words: &[String], shelf: &mut F) -> Result<Plan, Status>
+    ensures ran { IfOk result (λ plan. IsSaidOfWords
+        (map string_bytes words.now)
+        (record { told = F.told shelf.old; faults = F.faults shelf.old; faults_after = F.faults shelf.new })
+        (account_of plan)) }
+    ensures refused { IfErr result (IsRefusal (IsSaidOfWords
+        (map string_bytes words.now)
+        (record { told = F.told shelf.old; faults = F.faults shelf.old; faults_after = F.faults shelf.new }))) }
+{
+    match requested(words) {
+        Ok(request) => run_request(alloc, shelf, &request),
+        Err(kind) => Err(Status::Usage { kind }),
+    }
+}
+
+// The run that is asked for.
+fn run_request<F: Shelf>(
+    alloc: Global,
+    shelf: &mut F,
+    request: &Request<'_>,
+) -> Result<Plan, Status>
+    requires { IsBudget request.now.budget }
+    ensures ran { IfOk result (λ plan. IsSaidOf
+        (record { told = F.told shelf.old; faults = F.faults shelf.old; faults_after = F.faults shelf.new })
+        (asked_of request.now) (account_of plan)) }
+    ensures refused { IfErr result (IsRefusal (IsSaidOf
+        (record { told = F.told shelf.old; faults = F.faults shelf.old; faults_after = F.faults shelf.new })
+        (asked_of request.now))) }
+{
+    let (program, mut symbols) = read_program(alloc, shelf, request.program)?;
+    run_program(alloc, shelf, request, program, &mut symbols)
+}
+
+// The run of this program, whose symbols have these names.
+fn run_program<F: Shelf>(
+    alloc: Global,
+    shelf: &mut F,
+    request: &Request<'_>,
+    program: Program,
+    symbols: &mut Symbols,
+) -> Result<Plan, Status>
+    requires budget { IsBudget request.now.budget }
+    requires sound { IsSound program }
+    requires thin { is_thin program ≡ true }
+    requires few_makes { length program.makes < 2 ^ 32 }
+    requires few_names { length symbols.old ≤ 1 + most_bytes }
+    ensures ran { IfOk result (λ plan. IsSaidOfProgram
+        (record { told = F.told shelf.old; faults = F.faults shelf.old; faults_after = F.faults shelf.new })
+        (asked_of request.now) (record { program = program; names = symbols.old }) (account_of plan)) }
+    ensures refused { IfErr result (IsRefusal (IsSaidOfProgram
+        (record { told = F.told shelf.old; faults = F.faults shelf.old; faults_after = F.faults shelf.new })
+        (asked_of request.now) (record { program = program; names = symbols.old }))) }
+{
+    let opening = read_opening(alloc, shelf, request.memory, &program, symbols)?;
+    let plan = plan_run(alloc, program, opening.as_slice(), request.budget, symbols)?;
+    Ok(plan)
 }

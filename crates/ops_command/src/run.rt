@@ -1,37 +1,43 @@
 //! The run of a program from its opening to its ending, and what is to be said of it.
 
-ghost use Rattle.std.specs.Prelude.{◌≡◌, ◌^◌, ◌<◌, true, length, IfOk};
-ghost use Rattle.rule_base.specs.Sound.{IsSound};
+ghost use Rattle.std.specs.Prelude.{◌≡◌, true, IfOk};
+ghost use Rattle.rule_base.specs.Opening.{IsOpening};
+ghost use Rattle.rule_base.specs.Sound.{IsSound, sizes_of};
 ghost use Rattle.rule_base.specs.Thin.{is_thin};
 ghost use Rattle.firing_core.specs.CoreState.{choices_of};
+ghost use Rattle.ops_command.specs.Words.{IsBudget};
 ghost use Rattle.ops_command.specs.Findings.{findings_of, of_run};
+ghost use Rattle.ops_command.specs.Account.{account_of};
 ghost use Rattle.ops_command.specs.RunReport.{run_report};
-ghost use Rattle.ops_command.specs.Answer.{IsRunPlan};
+ghost use Rattle.ops_command.specs.Ran.{Ran};
 
-use crate::opening::opening_elements;
 use crate::plan::Plan;
 use crate::run_report::run_report;
 use crate::status::{Report, Status};
 use firing_core::{Core, Finished, run_alone};
-use ops_text::{Duplicate, OutOfMemory, Sequence, Symbols};
+use ops_text::{OutOfMemory, Sequence, Symbols};
 use rule_base::{Choice, Element, Ending, Entry, Program};
 use std::alloc::Global;
 use std::sync::Arc;
 
-/// The most firings of a run.
-const BUDGET: u64 = 1_000_000;
-
-/// What is to be said of a program with these names: that it ran, and how.
-pub fn plan_run(alloc: Global, program: Program, symbols: &Symbols) -> Result<Plan, OutOfMemory>
+/// What is to be said of a program that runs from this opening memory, with at most so many firings.
+pub fn plan_run(
+    alloc: Global,
+    program: Program,
+    opening: &[Element],
+    budget: u64,
+    symbols: &Symbols,
+) -> Result<Plan, OutOfMemory>
     requires sound { IsSound program }
     requires thin { is_thin program ≡ true }
-    requires few_makes { length program.makes < 2 ^ 62 }
-    ensures { IfOk result
-        (λ plan. IsRunPlan program symbols.now (findings_of plan.report) plan.text.items plan.report.status) }
+    requires opening { IsOpening (sizes_of program.classes) opening.now }
+    requires budget { IsBudget budget }
+    ensures { IfOk result (λ plan. Ran
+        (record { program = program; elements = opening.now; budget = budget; names = symbols.now })
+        (account_of plan)) }
 {
-    let elements = opening_elements(alloc, &program)?;
     let program = Arc::new(alloc, program)?;
-    let Finished { core, ending } = run_alone(alloc, program, elements.as_slice(), BUDGET)?;
+    let Finished { core, ending } = run_alone(alloc, program, opening, budget)?;
     match ending {
         Ending::Quiet => plan_report(alloc, &core, symbols, Status::Quiet, "quiet"),
         Ending::Spent { n } => plan_report(alloc, &core, symbols, Status::Spent { n }, "spent"),

@@ -1,39 +1,99 @@
 //! The report of a call: its status, and what a run came to.
 
-ghost use Rattle.std.specs.Prelude.{◌≡◌};
+ghost use Rattle.std.specs.Prelude.{◌≡◌, Some};
+ghost use Rattle.ops_command.specs.declared.status.Status.TheVariants.{OutOfMemory as no_memory};
 ghost use Rattle.ops_command.specs.Findings.{findings_of, no_findings};
+ghost use Rattle.ops_command.specs.Refusals.{usage_word, file_word};
 
-use ops_text::Sequence;
+use ops_reader::SyntaxKind;
+use ops_text::{OutOfMemory, Sequence};
 use rule_base::{Choice, Element};
+use rule_checker::CheckKind;
 use std::alloc::Global;
+use std::fmt;
 
 /// Which part of the command line is faulty.
 #[derive(Clone, Copy, Debug, PartialEq, Eq)]
 pub enum UsageKind {
     /// The words themselves.
     Words,
+    /// The number of firings.
+    Number,
+}
+
+impl fmt::Display for UsageKind {
+    ghost output = { λ kind. Some (usage_word kind) };
+
+    fn fmt<W: fmt::Write>(&self, f: &mut fmt::Formatter<W>) -> fmt::Result {
+        f.write_str(match *self {
+            UsageKind::Words => "words",
+            UsageKind::Number => "number",
+        })
+    }
 }
 
 /// Which file a status speaks of.
 #[derive(Clone, Copy, Debug, PartialEq, Eq)]
 pub enum FileKind {
     Program,
+    Memory,
 }
 
-/// How a call ended. `n` counts firings, and `at` bytes from 0.
+impl fmt::Display for FileKind {
+    ghost output = { λ file. Some (file_word file) };
+
+    fn fmt<W: fmt::Write>(&self, f: &mut fmt::Formatter<W>) -> fmt::Result {
+        f.write_str(match *self {
+            FileKind::Program => "program",
+            FileKind::Memory => "memory",
+        })
+    }
+}
+
+/// How a call ended. `n` counts firings, `at` bytes from 0, and `form` the forms of a file from 1.
 #[derive(Clone, Copy, Debug, PartialEq, Eq)]
 pub enum Status {
     /// Nothing was left to fire.
     Quiet,
-    Usage { kind: UsageKind },
+    Usage {
+        kind: UsageKind,
+    },
     /// The firings were used up, and something was left.
-    Spent { n: u64 },
-    ReadFault { file: FileKind },
+    Spent {
+        n: u64,
+    },
+    ReadFault {
+        file: FileKind,
+    },
     WriteFault,
-    TooLong { file: FileKind },
-    /// The text has a form that isn't built yet, or is faulty.
-    NotBuilt { at: u64 },
+    TooLong {
+        file: FileKind,
+    },
+    /// The text of the file isn't one of the language.
+    Syntax {
+        file: FileKind,
+        at: u64,
+        kind: SyntaxKind,
+    },
+    /// A form of the file breaks a rule of the language.
+    Check {
+        file: FileKind,
+        form: u32,
+        kind: CheckKind,
+    },
+    /// The program has a rule that doesn't run yet. It begins at this byte.
+    NotBuilt {
+        at: u64,
+    },
     OutOfMemory,
+}
+
+impl From<OutOfMemory> for Status {
+    ghost from_gives = { λ _ status. status ≡ no_memory };
+
+    fn from(_error: OutOfMemory) -> Status {
+        Status::OutOfMemory
+    }
 }
 
 /// What a call answers: its status, the instantiations that fired, in order, the working memory in the

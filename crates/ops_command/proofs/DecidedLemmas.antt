@@ -1,0 +1,244 @@
+-- Where no count of faults rose, what is said of the words is decided by them and the files.
+use Rattle.std.proofs.Common.{◌≡◌, ℕ, ◌+◌, ◌<◌, ◌≤◌, ◌⊎◌, inl, inr, Bool, true, false, not, List, [], ◌∷◌, Option, None, Some, Result, Ok, Err, length, position, slice_get, option_and_then, if◌then◌else◌, refl, sym, ap, ◌∙◌, subst, arith}
+use Rattle.std.specs.List.{list_all, position_from}
+use Rattle.std.proofs.lemmas.Option.{none-some}
+use Rattle.std.proofs.lemmas.Iterator.Adapters.{position_from-zero}
+use Rattle.rule_base.specs.declared.program.Program.{Program}
+use Rattle.rule_base.specs.Thin.{is_thin_rule, is_thin}
+use Rattle.ops_text.specs.Names.{Names}
+use Rattle.ops_text.specs.Faults.{Rose}
+use Rattle.ops_reader.specs.declared.form.Form.{Form}
+use Rattle.ops_reader.specs.declared.refusal.SyntaxKind.{SyntaxKind}
+use Rattle.ops_reader.specs.Tokens.{tokens_of}
+use Rattle.ops_reader.specs.Grammar.{IsText}
+use Rattle.ops_reader.specs.Refusal.{IsRefusedAt}
+use Rattle.rule_checker.specs.Forms.{Violation}
+use Rattle.rule_checker.specs.Checked.{checked}
+use Rattle.rule_checker.specs.Opening.{opening_list}
+use Rattle.ops_command.specs.declared.status.UsageKind.{UsageKind}
+use Rattle.ops_command.specs.declared.status.FileKind.{FileKind}
+use Rattle.ops_command.specs.declared.status.FileKind.TheVariants as file
+use Rattle.ops_command.specs.declared.status.Status.{Status}
+use Rattle.ops_command.specs.declared.status.Status.TheVariants as status
+use Rattle.ops_command.specs.Words.{Asked, asked_by}
+use Rattle.ops_command.specs.Call.{Files, Call}
+use Rattle.ops_command.specs.Account.{Account, refusal}
+use Rattle.ops_command.specs.FileBytes.{most_bytes, AreBytesOf, WereRead, IsUnread}
+use Rattle.ops_command.specs.FaultyText.{IsSyntaxError, IsCheckError}
+use Rattle.ops_command.specs.NotBuilt.{rule_forms, first_unbuilt, unbuilt_form, HasUnbuilt}
+use Rattle.ops_command.specs.ProgramText.{first_names, NamedProgram, Defines, IsFaultyProgram}
+use Rattle.ops_command.specs.ProgramFile.{GivesProgram, IsRefusedProgram}
+use Rattle.ops_command.specs.MemoryText.{NamedOpening, Opens, IsFaultyMemory}
+use Rattle.ops_command.specs.MemoryFile.{OpensAlone, GivesOpening, IsRefusedMemory}
+use Rattle.ops_command.specs.Ran.{Start, Ran}
+use Rattle.ops_command.specs.Answer.{RanFromOpening, IsSaidOfProgram, IsSaidOf, IsSaidOfWords}
+use Rattle.ops_command.specs.Decided.{HasNoFault, IsUnlessOutOfMemory, AsksToRun, AsksToRunProgram, AsksToLoad, AsksToRunFrom, DecidesText, IsDecided}
+use Rattle.ops_command.proofs.ChainLemmas.{same_ok, same_err, same_some}
+use Rattle.ops_command.proofs.ReaderLemmas.{one_reading, one_outcome, one_refusal}
+
+ok_err : {T E : Type 0} {t : T} {e : E} → ◌≡◌ {A = Result T E} (Ok t) (Err e) → ⊥
+ok_err same = cc
+
+-- the status of a refusal
+pub under : (account : Account) (said : Status) → account ≡ refusal said → account.status ≡ said
+under account said is = ap (λ (a : Account). a.status) is
+
+-- what is said of the words under which nothing is asked for
+usage_said : (words : List (List ℕ)) (files : Files) (account : Account) (kind : UsageKind) → IsSaidOfWords words files account → asked_by words ≡ Err kind → IsUnlessOutOfMemory (status.Usage kind) account.status
+usage_said words files account kind (inl usage) faulty = inl (under account (status.Usage usage.kind) usage.said ∙ ap status.Usage (same_err (sym usage.faulty ∙ faulty)))
+usage_said words files account kind (inr asks) faulty = absurd (ok_err (sym asks.by_words ∙ faulty))
+
+-- what is said of what the words ask for
+asked_said : (words : List (List ℕ)) (files : Files) (account : Account) (asked : Asked) → IsSaidOfWords words files account → asked_by words ≡ Ok asked → IsSaidOf files asked account
+asked_said words files account asked (inl usage) by_words = absurd (ok_err (sym by_words ∙ usage.faulty))
+asked_said words files account asked (inr asks) by_words = subst (λ (a : Asked). IsSaidOf files a account) (same_ok (sym asks.by_words ∙ by_words)) asks.holds
+
+-- faults of a text, told of one account
+record IsFaultOf {A : Type 0} (defined : List Form → Result A Violation) (names : Names) (bytes : List ℕ) (kind : FileKind) (account : Account) : Type 0 where
+  pub syntax : (at : ℕ) (why : SyntaxKind) → IsRefusedAt names bytes at why → account.status ≡ status.Syntax kind at why
+  pub check : (forms : List Form) (after : Names) (violation : Violation) → IsText names forms (tokens_of bytes) after → defined forms ≡ Err violation
+      → account.status ≡ status.Check kind violation.form violation.kind
+
+syntax_decides : {A : Type 0} (defined : List Form → Result A Violation) (names : Names) (bytes : List ℕ) (kind : FileKind) (account : Account) → IsSyntaxError names bytes kind account → IsFaultOf defined names bytes kind account
+syntax_decides defined names bytes kind account wrong = record {
+  syntax = λ at why refused.
+      let same = one_refusal names bytes wrong.at at wrong.why why wrong.refused refused in
+      under account (status.Syntax kind wrong.at wrong.why) wrong.said ∙ ap (λ (a : ℕ). status.Syntax kind a wrong.why) same.0 ∙ ap (λ (w : SyntaxKind). status.Syntax kind at w) same.1;
+  check = λ forms after violation text violated. absurd (one_outcome names bytes forms after wrong.at wrong.why text wrong.refused);
+}
+
+check_decides : {A : Type 0} (defined : List Form → Result A Violation) (names : Names) (bytes : List ℕ) (kind : FileKind) (account : Account) → IsCheckError defined names bytes kind account → IsFaultOf defined names bytes kind account
+check_decides defined names bytes kind account wrong = record {
+  syntax = λ at why refused. absurd (one_outcome names bytes wrong.forms wrong.after at why wrong.text refused);
+  check = λ forms after violation text violated.
+      let same = one_reading names (tokens_of bytes) wrong.forms forms wrong.after after wrong.text text in
+      let one : wrong.violation ≡ violation = same_err (sym wrong.violated ∙ ap defined same.0 ∙ violated) in
+      under account (status.Check kind wrong.violation.form wrong.violation.kind) wrong.said ∙ ap (λ (v : Violation). status.Check kind v.form v.kind) one;
+}
+
+-- a text that is right has no faults
+right_decides : {A : Type 0} (defined : List Form → Result A Violation) (names : Names) (bytes : List ℕ) (kind : FileKind) (account : Account) (forms : List Form) (after : Names) (a : A) → IsText names forms (tokens_of bytes) after → defined forms ≡ Ok a → IsFaultOf defined names bytes kind account
+right_decides defined names bytes kind account forms after a text right = record {
+  syntax = λ at why refused. absurd (one_outcome names bytes forms after at why text refused);
+  check = λ others later violation other_text violated.
+      let same = one_reading names (tokens_of bytes) forms others after later text other_text in
+      absurd (ok_err (sym right ∙ ap defined same.0 ∙ violated));
+}
+
+-- in the words of the promise
+decides : {A : Type 0} (defined : List Form → Result A Violation) (names : Names) (bytes : List ℕ) (kind : FileKind) (account : Account) → IsFaultOf defined names bytes kind account → DecidesText defined names bytes kind account.status
+decides defined names bytes kind account fault = record {
+  syntax = λ at why refused. inl (fault.syntax at why refused);
+  check = λ forms after violation text violated. inl (fault.check forms after violation text violated);
+}
+
+-- what is said where a program file that is told was read
+data IsSaidOfBytes (files : Files) (asked : Asked) (bytes : List ℕ) (account : Account) : Type 0 where
+  IsLong : most_bytes < length bytes → account.status ≡ status.TooLong file.Program → IsSaidOfBytes files asked bytes account
+  IsFaulty : length bytes ≤ most_bytes → IsFaultyProgram bytes account → IsSaidOfBytes files asked bytes account
+  IsRight : length bytes ≤ most_bytes → (named : NamedProgram) → Defines bytes named → IsSaidOfProgram files asked named account → IsSaidOfBytes files asked bytes account
+
+bytes_said : (files : Files) (asked : Asked) (bytes : List ℕ) (account : Account) → ((name : List ℕ) → ¬ Rose (files.faults name) (files.faults_after name)) → files.told asked.program ≡ Some bytes → IsSaidOf files asked account → IsSaidOfBytes files asked bytes account
+bytes_said files asked bytes account calm told (inl (inl (inl fault))) = absurd (calm asked.program fault.fault)
+bytes_said files asked bytes account calm told (inl (inl (inr long))) = IsLong (long.long bytes told) (under account (status.TooLong file.Program) long.said)
+bytes_said files asked bytes account calm told (inl (inr read)) =
+    let same = read.are.as_told bytes told in
+    IsFaulty (subst (λ (b : List ℕ). length b ≤ most_bytes) same read.are.short) (subst (λ (b : List ℕ). IsFaultyProgram b account) same read.holds)
+bytes_said files asked bytes account calm told (inr given) =
+    let same = given.gives.are.as_told bytes told in
+    IsRight (subst (λ (b : List ℕ). length b ≤ most_bytes) same given.gives.are.short) given.named (subst (λ (b : List ℕ). Defines b given.named) same given.gives.holds) given.said
+
+long_decided : (files : Files) (asked : Asked) (bytes : List ℕ) (account : Account) → most_bytes < length bytes → IsSaidOfBytes files asked bytes account → account.status ≡ status.TooLong file.Program
+long_decided files asked bytes account long (IsLong more is) = is
+long_decided files asked bytes account long (IsFaulty short wrong) = absurd (omega (arith, long, short))
+long_decided files asked bytes account long (IsRight short named defines said) = absurd (omega (arith, long, short))
+
+text_decided : (files : Files) (asked : Asked) (bytes : List ℕ) (account : Account) → length bytes ≤ most_bytes → IsSaidOfBytes files asked bytes account → IsFaultOf checked first_names bytes file.Program account
+text_decided files asked bytes account short (IsLong more is) = absurd (omega (arith, more, short))
+text_decided files asked bytes account short (IsFaulty le (inl wrong)) = syntax_decides checked first_names bytes file.Program account wrong
+text_decided files asked bytes account short (IsFaulty le (inr (inl wrong))) = check_decides checked first_names bytes file.Program account wrong
+text_decided files asked bytes account short (IsFaulty le (inr (inr wrong))) = right_decides checked first_names bytes file.Program account wrong.forms wrong.has.after wrong.has.program wrong.has.text wrong.has.declares
+text_decided files asked bytes account short (IsRight le named defines said) = right_decides checked first_names bytes file.Program account defines.forms named.names named.program defines.text defines.declares
+
+-- where each element passes, none fails
+all_pass : {A : Type 0} (p : A → Bool) (i : ℕ) (xs : List A) → list_all p xs ≡ true → position_from (λ x. not (p x)) i xs ≡ None
+all_pass p i [] all = refl
+all_pass p i (x ∷ xs) all = grind (arith, all_pass p (i + 1) xs)
+
+-- a thin program has no rule that isn't built
+thin_unbuilt : (forms : List Form) (program : Program) → is_thin program ≡ true → unbuilt_form forms program ≡ None
+thin_unbuilt forms program thin = ap (option_and_then (slice_get (rule_forms 1 forms))) (position_from-zero (λ rule. not (is_thin_rule rule)) program.rules ∙ all_pass is_thin_rule 0 program.rules thin)
+
+unbuilt_decided : (files : Files) (asked : Asked) (bytes : List ℕ) (account : Account) (forms : List Form) (number : ℕ) → length bytes ≤ most_bytes → HasUnbuilt first_names bytes forms number → IsSaidOfBytes files asked bytes account → (at : ℕ) × (account.status ≡ status.NotBuilt at)
+unbuilt_decided files asked bytes account forms number short has (IsLong more is) = absurd (omega (arith, more, short))
+unbuilt_decided files asked bytes account forms number short has (IsFaulty le (inl wrong)) = absurd (one_outcome first_names bytes forms has.after wrong.at wrong.why has.text wrong.refused)
+unbuilt_decided files asked bytes account forms number short has (IsFaulty le (inr (inl wrong))) =
+    let same = one_reading first_names (tokens_of bytes) forms wrong.forms has.after wrong.after has.text wrong.text in
+    absurd (ok_err (sym has.declares ∙ ap checked same.0 ∙ wrong.violated))
+unbuilt_decided files asked bytes account forms number short has (IsFaulty le (inr (inr wrong))) = (wrong.at, under account (status.NotBuilt wrong.at) wrong.said)
+unbuilt_decided files asked bytes account forms number short has (IsRight le named defines said) =
+    let same = one_reading first_names (tokens_of bytes) forms defines.forms has.after named.names has.text defines.text in
+    let program : has.program ≡ named.program = same_ok (sym has.declares ∙ ap checked same.0 ∙ defines.declares) in
+    let none = thin_unbuilt forms has.program (subst (λ (p : Program). is_thin p ≡ true) (sym program) defines.thin) in
+    absurd (none-some number (sym none ∙ has.unbuilt))
+
+-- bytes define one program
+one_program : (bytes : List ℕ) (named other : NamedProgram) → Defines bytes named → Defines bytes other → named ≡ other
+one_program bytes named other defines others =
+    let same = one_reading first_names (tokens_of bytes) defines.forms others.forms named.names other.names defines.text others.text in
+    let program : named.program ≡ other.program = same_ok (sym defines.declares ∙ ap checked same.0 ∙ others.declares) in
+    ap (λ (p : Program). record { program = p; names = named.names }) program ∙ ap (λ (ns : Names). record { program = other.program; names = ns }) same.1
+
+program_decided : (files : Files) (asked : Asked) (bytes : List ℕ) (account : Account) (named : NamedProgram) → length bytes ≤ most_bytes → Defines bytes named → IsSaidOfBytes files asked bytes account → IsSaidOfProgram files asked named account
+program_decided files asked bytes account named short defines (IsLong more is) = absurd (omega (arith, more, short))
+program_decided files asked bytes account named short defines (IsFaulty le (inl wrong)) = absurd (one_outcome first_names bytes defines.forms named.names wrong.at wrong.why defines.text wrong.refused)
+program_decided files asked bytes account named short defines (IsFaulty le (inr (inl wrong))) =
+    let same = one_reading first_names (tokens_of bytes) defines.forms wrong.forms named.names wrong.after defines.text wrong.text in
+    absurd (ok_err (sym defines.declares ∙ ap checked same.0 ∙ wrong.violated))
+program_decided files asked bytes account named short defines (IsFaulty le (inr (inr wrong))) =
+    let same = one_reading first_names (tokens_of bytes) wrong.forms defines.forms wrong.has.after named.names wrong.has.text defines.text in
+    let program : wrong.has.program ≡ named.program = same_ok (sym wrong.has.declares ∙ ap checked same.0 ∙ defines.declares) in
+    let none = thin_unbuilt wrong.forms wrong.has.program (subst (λ (p : Program). is_thin p ≡ true) (sym program) defines.thin) in
+    absurd (none-some wrong.number (sym none ∙ wrong.has.unbuilt))
+program_decided files asked bytes account named short defines (IsRight le other others said) = subst (λ (n : NamedProgram). IsSaidOfProgram files asked n account) (one_program bytes other named others defines) said
+
+-- what is said where a memory file that is told was read
+data IsSaidOfMemory (named : NamedProgram) (budget : ℕ) (bytes : List ℕ) (account : Account) : Type 0 where
+  IsLongMemory : most_bytes < length bytes → account.status ≡ status.TooLong file.Memory → IsSaidOfMemory named budget bytes account
+  IsFaultyText : length bytes ≤ most_bytes → IsFaultyMemory named bytes account → IsSaidOfMemory named budget bytes account
+  IsOpened : length bytes ≤ most_bytes → (opening : NamedOpening) → Opens named bytes opening → (account.status ≡ status.Quiet) ⊎ (account.status ≡ status.Spent budget) → IsSaidOfMemory named budget bytes account
+
+ran_status : (start : Start) (account : Account) → Ran start account → (account.status ≡ status.Quiet) ⊎ (account.status ≡ status.Spent start.budget)
+ran_status start account (inl quiet) = inl quiet.under
+ran_status start account (inr spent) = inr spent.under
+
+memory_said : (files : Files) (asked : Asked) (named : NamedProgram) (name bytes : List ℕ) (account : Account) → ((name : List ℕ) → ¬ Rose (files.faults name) (files.faults_after name)) → asked.memory ≡ Some name → files.told name ≡ Some bytes → IsSaidOfProgram files asked named account
+    → IsSaidOfMemory named asked.budget bytes account
+memory_said files asked named name bytes account calm memory told (inl refused) = by_reason (subst (λ (m : Option (List ℕ)). IsRefusedMemory files m named account) memory refused)
+  where
+    by_reason : IsRefusedMemory files (Some name) named account → IsSaidOfMemory named asked.budget bytes account
+    by_reason (inl (inl fault)) = absurd (calm name fault.fault)
+    by_reason (inl (inr long)) = IsLongMemory (long.long bytes told) (under account (status.TooLong file.Memory) long.said)
+    by_reason (inr read) =
+        let same = read.are.as_told bytes told in
+        IsFaultyText (subst (λ (b : List ℕ). length b ≤ most_bytes) same read.are.short) (subst (λ (b : List ℕ). IsFaultyMemory named b account) same read.holds)
+memory_said files asked named name bytes account calm memory told (inr ran) =
+    let read : WereRead files.told name (λ b. Opens named b ran.opening) = subst (λ (m : Option (List ℕ)). GivesOpening files.told m named ran.opening) memory ran.opens in
+    let same = read.are.as_told bytes told in
+    IsOpened (subst (λ (b : List ℕ). length b ≤ most_bytes) same read.are.short) ran.opening (subst (λ (b : List ℕ). Opens named b ran.opening) same read.holds) (ran_status _ account ran.ran)
+
+long_memory_decided : (named : NamedProgram) (budget : ℕ) (bytes : List ℕ) (account : Account) → most_bytes < length bytes → IsSaidOfMemory named budget bytes account → account.status ≡ status.TooLong file.Memory
+long_memory_decided named budget bytes account long (IsLongMemory more is) = is
+long_memory_decided named budget bytes account long (IsFaultyText short wrong) = absurd (omega (arith, long, short))
+long_memory_decided named budget bytes account long (IsOpened short opening opens ran) = absurd (omega (arith, long, short))
+
+memory_decided : (named : NamedProgram) (budget : ℕ) (bytes : List ℕ) (account : Account) → length bytes ≤ most_bytes → IsSaidOfMemory named budget bytes account → IsFaultOf (opening_list named.program) named.names bytes file.Memory account
+memory_decided named budget bytes account short (IsLongMemory more is) = absurd (omega (arith, more, short))
+memory_decided named budget bytes account short (IsFaultyText le (inl wrong)) = syntax_decides (opening_list named.program) named.names bytes file.Memory account wrong
+memory_decided named budget bytes account short (IsFaultyText le (inr wrong)) = check_decides (opening_list named.program) named.names bytes file.Memory account wrong
+memory_decided named budget bytes account short (IsOpened le opening opens ran) = right_decides (opening_list named.program) named.names bytes file.Memory account opens.forms opening.names opening.elements opens.text opens.makes
+
+run_decided : (named : NamedProgram) (budget : ℕ) (bytes : List ℕ) (account : Account) (opening : NamedOpening) → length bytes ≤ most_bytes → Opens named bytes opening → IsSaidOfMemory named budget bytes account → (account.status ≡ status.Quiet) ⊎ (account.status ≡ status.Spent budget)
+run_decided named budget bytes account opening short opens (IsLongMemory more is) = absurd (omega (arith, more, short))
+run_decided named budget bytes account opening short opens (IsFaultyText le (inl wrong)) = absurd (one_outcome named.names bytes opens.forms opening.names wrong.at wrong.why opens.text wrong.refused)
+run_decided named budget bytes account opening short opens (IsFaultyText le (inr wrong)) =
+    let same = one_reading named.names (tokens_of bytes) opens.forms wrong.forms opening.names wrong.after opens.text wrong.text in
+    absurd (ok_err (sym opens.makes ∙ ap (opening_list named.program) same.0 ∙ wrong.violated))
+run_decided named budget bytes account opening short opens (IsOpened le other others ran) = ran
+
+-- with a memory file or without one
+from_decided : (files : Files) (asked : Asked) (named : NamedProgram) (opening : NamedOpening) (account : Account) → ((name : List ℕ) → ¬ Rose (files.faults name) (files.faults_after name)) → ((name : List ℕ) → asked.memory ≡ Some name → (bytes : List ℕ) × (files.told name ≡ Some bytes))
+    → GivesOpening files.told asked.memory named opening → IsSaidOfProgram files asked named account → (account.status ≡ status.Quiet) ⊎ (account.status ≡ status.Spent asked.budget)
+from_decided files asked named opening account calm told opens said = by_memory asked.memory refl
+  where
+    alone : asked.memory ≡ None → IsSaidOfProgram files asked named account → (account.status ≡ status.Quiet) ⊎ (account.status ≡ status.Spent asked.budget)
+    alone none (inl refused) = absurd (subst (λ (m : Option (List ℕ)). IsRefusedMemory files m named account) none refused)
+    alone none (inr ran) = ran_status _ account ran.ran
+
+    by_memory : (memory : Option (List ℕ)) → asked.memory ≡ memory → (account.status ≡ status.Quiet) ⊎ (account.status ≡ status.Spent asked.budget)
+    by_memory None is = alone is said
+    by_memory (Some name) is =
+        let bytes = told name is in
+        let read : WereRead files.told name (λ b. Opens named b opening) = subst (λ (m : Option (List ℕ)). GivesOpening files.told m named opening) is opens in
+        let same = read.are.as_told bytes.0 bytes.1 in
+        run_decided named asked.budget bytes.0 account opening (subst (λ (b : List ℕ). length b ≤ most_bytes) same read.are.short) (subst (λ (b : List ℕ). Opens named b opening) same read.holds)
+        (memory_said files asked named name bytes.0 account calm is bytes.1 said)
+
+run_unless : (account : Account) (budget : ℕ) → (account.status ≡ status.Quiet) ⊎ (account.status ≡ status.Spent budget) → (account.status ≡ status.Quiet) ⊎ IsUnlessOutOfMemory (status.Spent budget) account.status
+run_unless account budget (inl quiet) = inl quiet
+run_unless account budget (inr spent) = inr (inl spent)
+
+-- the status of what is said is decided
+pub IsDecided-said : (call : Call) (account : Account) → HasNoFault call → IsSaidOfWords call.words call.files account → IsDecided call account.status
+IsDecided-said call account calm said =
+    let read = λ (asked : Asked) (bytes : List ℕ) (asks : AsksToRun call asked bytes). bytes_said call.files asked bytes account calm.reading asks.told (asked_said call.words call.files account asked said asks.by_words) in
+    let of_program = λ (asked : Asked) (named : NamedProgram) (asks : AsksToRunProgram call asked named). program_decided call.files asked asks.bytes account named asks.short asks.defines (read asked asks.bytes asks.asks) in
+    let loaded = λ (asked : Asked) (named : NamedProgram) (bytes : List ℕ) (asks : AsksToLoad call asked named bytes). memory_said call.files asked named asks.name bytes account calm.reading asks.by_words asks.told (of_program asked named asks.asks) in record {
+      usage = λ kind faulty. usage_said call.words call.files account kind said faulty;
+      program_too_long = λ asked bytes asks long. inl (long_decided call.files asked bytes account long (read asked bytes asks));
+      program_text = λ asked bytes asks short. decides checked first_names bytes file.Program account (text_decided call.files asked bytes account short (read asked bytes asks));
+      not_built = λ asked bytes forms number asks short has. let at = unbuilt_decided call.files asked bytes account forms number short has (read asked bytes asks) in (at.0, inl at.1);
+      memory_too_long = λ asked named bytes asks long. inl (long_memory_decided named asked.budget bytes account long (loaded asked named bytes asks));
+      memory_text = λ asked named bytes asks short. decides (opening_list named.program) named.names bytes file.Memory account (memory_decided named asked.budget bytes account short (loaded asked named bytes asks));
+      runs = λ asked named opening asks. run_unless account asked.budget (from_decided call.files asked named opening account calm.reading asks.told asks.opens (of_program asked named asks.asks));
+    }

@@ -1,9 +1,0 @@
--- A new name goes last.
-use Rattle.std.proofs.Common.{nat_eq}
-use Rattle.ops_command.proofs.NumberLemmas.{list_any-unnumbered}
-use Rattle.ops_command.proofs.variables.Variables.add.Goals as goal
-
-pub returns : goal.returns
-returns c =
-    let new = list_any-unnumbered (nat_eq c.args.name) c.args.self.now c.requires.new in
-    rw (c.in_ok-insert.ensures.keys, c.self.view_is, new)

@@ -1,0 +1,36 @@
+//! The bytes of a file, or the reason why there are none.
+
+ghost use Rattle.std.specs.Prelude.{◌≡◌, ◌≤◌, ℕ, List, IfOk, IfErr};
+ghost use Rattle.ops_command.specs.Account.{IsRefusal};
+ghost use Rattle.ops_command.specs.FileBytes.{AreBytesOf, IsUnread};
+
+use crate::status::{FileKind, Status};
+use ops_text::{ReadRefusal, Shelf, read_all};
+use std::alloc::Global;
+
+/// The most bytes of a program file or a memory file.
+const MOST_BYTES: u64 = 4_194_304;
+
+/// Reads a file whole.
+pub fn read_file<F: Shelf>(
+    alloc: Global,
+    shelf: &mut F,
+    name: &str,
+    file: FileKind,
+) -> Result<Vec<u8>, Status>
+    ensures read { IfOk result (λ bytes. AreBytesOf (F.told shelf.old) name.now bytes.items) }
+    ensures unread { IfErr result (IsRefusal (IsUnread
+        (record { told = F.told shelf.old; faults = F.faults shelf.old; faults_after = F.faults shelf.new })
+        name.now file)) }
+
+    // Whatever the answer, the files and what is told of them stay.
+    ensures same { F.told shelf.new ≡ F.told shelf.old }
+    ensures later { (other : List ℕ) → F.faults shelf.old other ≤ F.faults shelf.new other }
+{
+    match read_all(alloc, shelf, name, MOST_BYTES) {
+        Ok(bytes) => Ok(bytes),
+        Err(ReadRefusal::ReadFault) => Err(Status::ReadFault { file }),
+        Err(ReadRefusal::TooLong) => Err(Status::TooLong { file }),
+        Err(ReadRefusal::OutOfMemory) => Err(Status::OutOfMemory),
+    }
+}
