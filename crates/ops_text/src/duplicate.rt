@@ -34,10 +34,17 @@ impl<A: Duplicate, B: Duplicate> Duplicate for (A, B) {
 
 impl<T: Duplicate> Duplicate for Sequence<T> {
     fn duplicate(&self, alloc: Global) -> Result<Sequence<T>, OutOfMemory> {
-        let mut copies = Vec::new(alloc);
-        for element in self.as_slice() {
-            copies.push(element.duplicate(alloc)?)?;
-        }
-        Ok(Sequence::from_vec(copies))
+        Ok(Sequence::from_vec(copied(alloc, self.as_slice())?))
     }
+}
+
+/// Values equal to those of the slice. It takes time and memory in proportion to them.
+pub fn copied<T: Duplicate>(alloc: Global, values: &[T]) -> Result<Vec<T>, OutOfMemory>
+    ensures { IfOk result (λ copies. copies.items ≡ values.now) }
+{
+    let mut copies = Vec::with_capacity(alloc, values.len())?;
+    for value in values {
+        copies.push(value.duplicate(alloc)?)?;
+    }
+    Ok(copies)
 }

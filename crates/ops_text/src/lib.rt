@@ -10,7 +10,7 @@ mod shelf;
 mod sink;
 mod symbols;
 
-pub use duplicate::Duplicate;
+pub use duplicate::{Duplicate, copied};
 pub use numeral::{put_int, read_int};
 pub use sequence::Sequence;
 pub use shelf::{FileShelf, MemShelf, ReadRefusal, Shelf, ShelfFailed, SureShelf, read_all};

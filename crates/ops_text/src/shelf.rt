@@ -61,7 +61,7 @@ impl From<OutOfMemory> for ReadRefusal {
     }
 }
 
-// How many bytes are asked for at once.
+/// How many bytes are asked for at once.
 const PIECE: usize = 65536;
 
 /// Reads a file whole, if it has at most `most` bytes. It asks for pieces of 64 KiB, and so takes
@@ -101,7 +101,7 @@ pub fn read_all<F: Shelf>(
     Err(ReadRefusal::TooLong)
 }
 
-// Room for so many bytes to be read into.
+/// Room for so many bytes to be read into.
 fn buffer(alloc: Global, length: usize) -> Result<Vec<u8>, OutOfMemory>
     ensures { IfOk result (λ buffer. vec_len buffer ≡ length) }
 {

@@ -47,7 +47,7 @@ impl Shelf for MemShelf {
 }
 
 impl MemShelf {
-    // Counts a call, and tells whether it is to fail.
+    /// Counts a call, and tells whether it is to fail.
     fn counts_failing_call(&mut self) -> bool
         ensures listed { IsTrue result ↔ IsListed self.old.failing.items self.old.calls }
         ensures calls { self.new ≡ record self.old { calls = counted self.old.calls } }

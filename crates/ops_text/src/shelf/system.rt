@@ -46,8 +46,8 @@ impl<R: Files + Drop> Shelf for FileShelf<R> {
     }
 }
 
-// The file is opened anew for each piece: that costs little beside the reading, and no open file
-// has to be kept under a name.
+/// The file is opened anew for each piece: that costs little beside the reading, and no open file
+/// has to be kept under a name.
 fn read_piece<R: Files>(rt: &R, name: &str, at: u64, into: &mut [u8]) -> io::Result<usize>
     ensures { ReadsAtMost result into.new }
 {

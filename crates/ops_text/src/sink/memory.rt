@@ -80,7 +80,7 @@ impl MemSink {
         })
     }
 
-    // Counts a call, and tells whether it is to fail.
+    /// Counts a call, and tells whether it is to fail.
     fn counts_failing_call(&mut self) -> bool
         ensures listed { IsTrue result ↔ IsListed self.old.failing.items self.old.calls }
         ensures calls { self.new ≡ record self.old { calls = counted self.old.calls } }
@@ -97,7 +97,7 @@ impl MemSink {
     }
 }
 
-// Appends bytes for which there is room.
+/// Appends bytes for which there is room.
 fn append(held: &mut Vec<u8>, bytes: &[u8])
     requires { length bytes.now ≤ room_left held.old }
     ensures bytes { held.new.items ≡ held.old.items ++ bytes.now }
