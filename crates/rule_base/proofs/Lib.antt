@@ -11,5 +11,6 @@ pub mod OrderLemmas
 pub mod ElementMatchLemmas
 pub mod ThinLemmas
 pub mod MachineLemmas
+pub mod RunLemmas
 -- expressions
 pub mod Written

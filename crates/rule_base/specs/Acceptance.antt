@@ -22,8 +22,10 @@ compared_with (Var var) bindings = binding_of bindings var
 -- variable that it compares with has no value
 abbrev pub after_test : Test → Bindings → List Value → Option Bindings
 after_test (Bind attr var) bindings values = option_map (bound bindings var) (slice_get values attr)
-after_test (Cmp attr pred arg) bindings values = option_and_then (λ value. option_and_then (λ other. only_if (holds pred value other) bindings) (compared_with arg bindings)) (slice_get values attr)
-after_test (OneOf attr among) bindings values = option_and_then (λ value. only_if (list_any (same_value value) among) bindings) (slice_get values attr)
+after_test (Cmp attr pred arg) bindings values =
+    option_and_then (λ value. option_and_then (λ other. only_if (holds pred value other) bindings) (compared_with arg bindings)) (slice_get values attr)
+after_test (OneOf attr among) bindings values =
+    option_and_then (λ value. only_if (list_any (same_value value) among) bindings) (slice_get values attr)
 
 -- the bindings after tests from left to right, or none where one fails
 abbrev pub after_tests : List Test → Bindings → List Value → Option Bindings

@@ -35,7 +35,8 @@ tag_lists (cond ∷ conds) memory bindings = tags_by cond.negated cond memory bi
 -- the instantiations of one rule, which comes with its number: a choice is an instantiation told by the number of
 -- its rule and the tags of its elements
 abbrev pub instantiations : Memory → ℕ × Rule → List Choice
-instantiations memory numbered = map (λ tags. record { rule = numbered.0; tags = tags }) (tag_lists numbered.1.conds memory (no_bindings numbered.1.vars))
+instantiations memory numbered =
+    map (λ tags. record { rule = numbered.0; tags = tags }) (tag_lists numbered.1.conds memory (no_bindings numbered.1.vars))
 
 -- the conflict set of a program over a memory
 abbrev pub conflict_set : Program → Memory → List Choice

@@ -72,11 +72,14 @@ after_remove (Some e) p = if is_gone e.tag p.done.changes then p else changing p
 
 -- one action, over the elements that the designators count from 0
 abbrev pub after_action : List Element → Action → Progress → Result Progress FaultCause
-after_action elements (action.Make class size sets) p = after_sets p.bindings sets (replicate size nil) >>= λ values. Ok (changing p (change.Make class values ∷ []))
+after_action elements (action.Make class size sets) p =
+    after_sets p.bindings sets (replicate size nil) >>= λ values. Ok (changing p (change.Make class values ∷ []))
 after_action elements (action.Modify at sets) p = after_modify (slice_get elements at) sets p
 after_action elements (action.Remove ats) p = Ok (fold (λ before at. after_remove (slice_get elements at) before) p ats)
 after_action elements (action.Bind var term) p = term_value p.bindings term >>= λ value. Ok (record p { bindings = bound p.bindings var value })
-after_action elements (action.Write items) p = item_pieces p.bindings items >>= λ more. Ok (record p { done = record { changes = p.done.changes; pieces = p.done.pieces ++ more; halts = p.done.halts } })
+after_action elements (action.Write items) p =
+    item_pieces p.bindings items >>= λ more.
+    Ok (record p { done = record { changes = p.done.changes; pieces = p.done.pieces ++ more; halts = p.done.halts } })
 after_action elements action.Halt p = Ok (record p { done = record { changes = p.done.changes; pieces = p.done.pieces; halts = true } })
 
 -- a failure says which action it is
@@ -92,7 +95,8 @@ after_actions number elements (first ∷ actions) p = of_action number (after_ac
 -- where a right-hand side begins: with the bindings of the match, and nothing done; a rule that doesn't match the
 -- elements has no bindings, and never fires with them
 abbrev pub beginning : Rule → List Element → Progress
-beginning rule elements = record { bindings = unwrap_or (bindings_with rule elements) (no_bindings rule.vars); done = record { changes = []; pieces = []; halts = false } }
+beginning rule elements =
+    record { bindings = unwrap_or (bindings_with rule elements) (no_bindings rule.vars); done = record { changes = []; pieces = []; halts = false } }
 
 -- the effect of firing the rule with the elements of its positive condition elements, or its first failing action
 abbrev pub effect : Rule → List Element → Result Effect Failure

@@ -18,7 +18,8 @@ after_element false cond (e ∷ elements) bindings = option_map (λ after. (elem
 abbrev pub matched : List Cond → List Element → Bindings → Option Bindings
 matched [] [] bindings = Some bindings
 matched [] (e ∷ elements) bindings = None
-matched (cond ∷ conds) elements bindings = option_and_then (λ (after : List Element × Bindings). matched conds after.0 after.1) (after_element cond.negated cond elements bindings)
+matched (cond ∷ conds) elements bindings =
+    option_and_then (λ (after : List Element × Bindings). matched conds after.0 after.1) (after_element cond.negated cond elements bindings)
 
 -- the bindings with which a rule's positive condition elements accept the elements
 abbrev pub bindings_with : Rule → List Element → Option Bindings

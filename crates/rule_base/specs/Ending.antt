@@ -14,6 +14,11 @@ use Rattle.rule_base.specs.Step.{effect_of}
 abbrev pub is_quiet : Program → State → Bool
 is_quiet program s = list_all (has_fired s) (conflict_set program s.memory)
 
+-- how many firings a run may be given
+pub record IsBudget (firings : ℕ) : Type 0 where
+  pub some : 1 ≤ firings
+  pub few : firings ≤ 4000000
+
 -- nothing halted, and nothing is left to fire
 pub record IsQuiet (program : Program) (s : State) : Type 0 where
   pub going : s.halted ≡ false

@@ -43,7 +43,8 @@ spaced_to n bytes = bytes ++ spaces (n - column bytes)
 
 -- the text after one piece more
 abbrev pub after_piece : List (List ℕ) → Text → Piece → Text
-after_piece names text (Put value) = let b = value_text names value in record { bytes = text.bytes ++ space_before text.width text (length b) ++ b; glue = false; width = None }
+after_piece names text (Put value) =
+    let b = value_text names value in record { bytes = text.bytes ++ space_before text.width text (length b) ++ b; glue = false; width = None }
 after_piece names text Crlf = record { bytes = text.bytes ++ 10 ∷ []; glue = true; width = None }
 after_piece names text (Tabto n) = record { bytes = spaced_to n (line_before n text.bytes); glue = true; width = None }
 after_piece names text (Rjust n) = record { bytes = text.bytes; glue = text.glue; width = Some n }

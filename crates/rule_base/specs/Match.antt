@@ -17,7 +17,8 @@ accepts_some cond bindings memory = list_any (λ (e : Element). is_some (accepts
 -- element must be there and be accepted
 abbrev pub after_positive : Cond → Memory → List ℕ → Bindings → Option (List ℕ × Bindings)
 after_positive cond memory [] bindings = None
-after_positive cond memory (tag ∷ tags) bindings = option_map (λ after. (tags, after)) (option_and_then (accepts cond bindings) (element_at memory tag))
+after_positive cond memory (tag ∷ tags) bindings =
+    option_map (λ after. (tags, after)) (option_and_then (accepts cond bindings) (element_at memory tag))
 
 -- the same after a condition element of either sign: a negated one holds where no element is accepted, takes no
 -- tag and leaves the bindings as they are
@@ -35,7 +36,8 @@ go_on number (Some a) next = next a
 abbrev pub match_from : ℕ → List Cond → Memory → List ℕ → Bindings → Result Bindings ℕ
 match_from number [] memory [] bindings = Ok bindings
 match_from number [] memory (tag ∷ tags) bindings = Err number
-match_from number (cond ∷ conds) memory tags bindings = go_on number (after_cond cond.negated cond memory tags bindings) (λ after. match_from (number + 1) conds memory after.0 after.1)
+match_from number (cond ∷ conds) memory tags bindings =
+    go_on number (after_cond cond.negated cond memory tags bindings) (λ after. match_from (number + 1) conds memory after.0 after.1)
 
 -- the match of a rule with these tags: the bindings, or the number of the first condition element that fails,
 -- from 1

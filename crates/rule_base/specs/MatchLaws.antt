@@ -14,15 +14,18 @@ use Rattle.rule_base.specs.Step.{matches}
 
 -- each choice of the conflict set matches, in a memory whose tags rise
 abbrev pub EachMatches : Type 0
-EachMatches = (program : Program) (memory : Memory) → Rises (tags_of memory) → AllByRecursion (λ (c : Choice). matches program memory c ≡ true) (conflict_set program memory)
+EachMatches = (program : Program) (memory : Memory) → Rises (tags_of memory)
+    → AllByRecursion (λ (c : Choice). matches program memory c ≡ true) (conflict_set program memory)
 
 -- each choice that matches is in the conflict set
 abbrev pub EachMatchIsListed : Type 0
-EachMatchIsListed = (program : Program) (memory : Memory) (c : Choice) → matches program memory c ≡ true → list_any (same_choice c) (conflict_set program memory) ≡ true
+EachMatchIsListed = (program : Program) (memory : Memory) (c : Choice) → matches program memory c ≡ true
+    → list_any (same_choice c) (conflict_set program memory) ≡ true
 
 -- the bindings of a match are those with which its rule takes the elements that it matched
 abbrev pub BindingsAreTheMatch : Type 0
-BindingsAreTheMatch = (rule : Rule) (tags : List ℕ) (memory : Memory) (bindings : Bindings) → match_of rule tags memory ≡ Ok bindings → bindings_with rule (elements_at memory tags) ≡ Some bindings
+BindingsAreTheMatch = (rule : Rule) (tags : List ℕ) (memory : Memory) (bindings : Bindings)
+    → match_of rule tags memory ≡ Ok bindings → bindings_with rule (elements_at memory tags) ≡ Some bindings
 
 -- whether tags come before others: at the first place where they differ the tag is less, or there is none
 abbrev pub tags_before : List ℕ → List ℕ → Bool

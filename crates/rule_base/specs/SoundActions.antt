@@ -41,7 +41,8 @@ SoundItem vars known (item.Rjust width) = Unit {0}
 -- an action of a rule whose positive condition elements have these classes
 abbrev pub SoundAction : List ℕ → List ℕ → ℕ → List ℕ → Action → Type 0
 SoundAction sizes classes vars known (action.Make class size sets) = (slice_get sizes class ≡ Some size) × SoundSets size vars known sets
-SoundAction sizes classes vars known (action.Modify at sets) = (at < length classes) × SoundSets (slice_index sizes (slice_index classes at)) vars known sets
+SoundAction sizes classes vars known (action.Modify at sets) =
+    (at < length classes) × SoundSets (slice_index sizes (slice_index classes at)) vars known sets
 SoundAction sizes classes vars known (action.Remove ats) = AllByRecursion (λ at. at < length classes) ats
 SoundAction sizes classes vars known (action.Bind var term) = (var < vars) × SoundTerm vars known term
 SoundAction sizes classes vars known (action.Write items) = AllByRecursion (SoundItem vars known) items
@@ -59,4 +60,5 @@ known_after_action known action.Halt = known
 -- actions in order
 abbrev pub SoundActions : List ℕ → List ℕ → ℕ → List ℕ → List Action → Type 0
 SoundActions sizes classes vars known [] = Unit {0}
-SoundActions sizes classes vars known (first ∷ actions) = SoundAction sizes classes vars known first × SoundActions sizes classes vars (known_after_action known first) actions
+SoundActions sizes classes vars known (first ∷ actions) =
+    SoundAction sizes classes vars known first × SoundActions sizes classes vars (known_after_action known first) actions

@@ -42,7 +42,8 @@ SoundTests size vars known (first ∷ tests) = SoundTest size vars known first �
 -- condition elements from left to right
 abbrev pub SoundConds : List ℕ → ℕ → List ℕ → List Cond → Type 0
 SoundConds sizes vars known [] = Unit {0}
-SoundConds sizes vars known (cond ∷ conds) = (cond.class < length sizes) × SoundTests (slice_index sizes cond.class) vars known cond.tests × SoundConds sizes vars (known_after_cond cond.negated known cond.tests) conds
+SoundConds sizes vars known (cond ∷ conds) =
+    (cond.class < length sizes) × SoundTests (slice_index sizes cond.class) vars known cond.tests × SoundConds sizes vars (known_after_cond cond.negated known cond.tests) conds
 
 -- the variables that the right-hand side begins with
 abbrev pub known_after_conds : List ℕ → List Cond → List ℕ

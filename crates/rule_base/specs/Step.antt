@@ -60,4 +60,5 @@ may_fire program s c = not s.halted && matches program s.memory c && not (has_fi
 
 -- the state after firing the choice, where the machine may fire it and its effect doesn't fail
 abbrev pub step : Program → State → Choice → Option State
-step program s c = option_and_then (λ done. only_if (may_fire program s c) (committed s c done)) (option_and_then result_ok (effect_of program s.memory c))
+step program s c =
+    option_and_then (λ done. only_if (may_fire program s c) (committed s c done)) (option_and_then result_ok (effect_of program s.memory c))

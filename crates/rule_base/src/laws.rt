@@ -1,7 +1,7 @@
 //! Laws of the definitions. Each function here does nothing: its contract is the law.
 
 ghost use Rattle.rule_base.specs.MatchLaws.{EachMatches, EachMatchIsListed, BindingsAreTheMatch, ConflictSetIsInOrder, NoneBeforeItself};
-ghost use Rattle.rule_base.specs.RunLaws.{RunsGoOn, StepsKeepStates, RunsKeepStates, StepsGiveFewTags, ThinNeverFails};
+ghost use Rattle.rule_base.specs.RunLaws.{RunsGoOn, RunsAreTold, StepsKeepStates, RunsKeepStates, StepsGiveFewTags, ThinNeverFails};
 
 /// The conflict set has the choices that match, and no others.
 pub fn conflict_set_is_the_match()
@@ -23,6 +23,11 @@ pub fn bindings_are_the_match()
 /// A run goes on where another ended.
 pub fn runs_go_on()
     ensures { RunsGoOn }
+{}
+
+/// The journal of a run from an opening tells its choices in order, and no choice fires twice.
+pub fn runs_are_told()
+    ensures { RunsAreTold }
 {}
 
 /// A step of a sound program leads from state to state, and so does a run.
