@@ -1,5 +1,5 @@
 -- Lawful cores: a core at its opening is lawful, and a firing keeps it so.
-use Rattle.std.proofs.Common.{◌≡◌, ℕ, ◌+◌, ◌^◌, ◌<◌, ◌≤◌, [], ◌∷◌, ◌++◌, length, true, Some, Ok, option_and_then, slice_get, refl, ◌∙◌, ap, subst, arith}
+use Rattle.std.proofs.Common.{◌≡◌, ℕ, ◌+◌, ◌^◌, ◌<◌, [], ◌∷◌, ◌++◌, length, true, Some, Ok, option_and_then, slice_get, refl, ◌∙◌, ap, subst, arith}
 use Rattle.std.proofs.lemmas.List.{length_push, map_push}
 use Rattle.rule_base.specs.declared.entry.Entry.{Entry}
 use Rattle.rule_base.specs.declared.instantiation.Choice.{Choice}
@@ -17,6 +17,7 @@ use Rattle.rule_base.specs.Run.{run}
 use Rattle.rule_base.proofs.EachLemmas.{Each-list_all, Each-slice_get}
 use Rattle.rule_base.proofs.EffectLemmas.{IsSizedEffect-sound, length-born}
 use Rattle.rule_base.proofs.MemoryLemmas.{AllBelow, AllBelow-consecutive}
+use Rattle.rule_base.specs.Ending.{IsBudget}
 use Rattle.rule_base.proofs.MachineLemmas.{Each-elements_at, IsKeepingStep-sound}
 use Rattle.rule_base.proofs.StepLemmas.{IsStep-from_step, run-append}
 use Rattle.firing_core.specs.CoreState.{CoreState, choices_of}
@@ -24,15 +25,14 @@ use Rattle.firing_core.specs.Lawful.{IsLawful}
 use Rattle.firing_core.specs.Matching.{MayMatch}
 use Rattle.firing_core.proofs.MatchingLemmas.{MayMatch-sound}
 
-pub IsLawful-opening : (program : Program) (elements : Memory) (budget : ℕ) → IsSound program → is_thin program ≡ true → IsOpening (sizes_of program.classes) elements → 1 ≤ budget → budget ≤ 4000000 → IsLawful (record { program = program; opening = elements; budget = budget; state = opening elements })
-IsLawful-opening program elements budget sound thin began some small = record {
+pub IsLawful-opening : (program : Program) (elements : Memory) (budget : ℕ) → IsSound program → is_thin program ≡ true → IsOpening (sizes_of program.classes) elements → IsBudget budget → IsLawful (record { program = program; opening = elements; budget = budget; state = opening elements })
+IsLawful-opening program elements budget sound thin began given = record {
   sound = sound;
   thin = thin;
   began = began;
   ran = refl;
   within = omega arith;
-  some_budget = some;
-  small_budget = small;
+  given = given;
   keeps = record { elements = began.memory; below = let same : 1 + length elements ≡ length elements + 1 = omega arith in subst (λ n. AllBelow n elements) same (AllBelow-consecutive 1 elements began.consecutive) };
   next_is_low = omega (arith, began.few);
 }
@@ -53,8 +53,7 @@ IsLawful-step k c after lawful within fired steps =
       began = lawful.began;
       ran = ap (run k.program (opening k.opening)) choices_are ∙ run-append k.program (opening k.opening) (choices_of k.state.entries) (c ∷ []) ∙ ap (option_and_then (λ (s : State). run k.program s (c ∷ []))) lawful.ran ∙ last;
       within = omega (arith, counted);
-      some_budget = lawful.some_budget;
-      small_budget = lawful.small_budget;
+      given = lawful.given;
       keeps = keeps.state;
       next_is_low = omega (arith, counted, keeps.near, lawful.next_is_low);
     }
@@ -65,7 +64,7 @@ born_fit k rule c done lawful within at is =
     let sizes = sizes_of k.program.classes in
     let sound : IsSoundRule sizes rule = Each-slice_get (IsSoundRule sizes) k.program.rules c.rule rule lawful.sound.sound_rules at in
     let sized = IsSizedEffect-sound sizes rule (elements_at k.state.memory c.tags) done sound (Each-elements_at (HasSize sizes) k.state.memory c.tags lawful.keeps.elements.sized) is in
-    omega (arith, length-born k.state.next done.changes, sized.few, sound.few_actions, lawful.next_is_low, lawful.small_budget)
+    omega (arith, length-born k.state.next done.changes, sized.few, sound.few_actions, lawful.next_is_low, lawful.given.few)
 
 -- a rule of the program may be matched with elements of the memory
 pub rule_may_match : (k : CoreState) (rule : Rule) (c : Choice) → IsLawful k → slice_get k.program.rules c.rule ≡ Some rule → MayMatch rule.conds (elements_at k.state.memory c.tags) (no_bindings rule.vars)

@@ -6,7 +6,8 @@ use Rattle.firing_core.specs.Lawful.{IsLawful}
 
 -- the state that the fields hold: each choice that fired stands in its entry
 abbrev pub state_in : Inside → State
-state_in core = record { memory = core.memory.items; next = core.next; fired = choices_of core.entries.items; entries = core.entries.items; halted = core.halted }
+state_in core =
+    record { memory = core.memory.items; next = core.next; fired = choices_of core.entries.items; entries = core.entries.items; halted = core.halted }
 
 -- the core that the fields hold
 abbrev pub core_in : Inside → CoreState

@@ -5,6 +5,7 @@ use Rattle.rule_base.specs.Sound.{IsSound, sizes_of}
 use Rattle.rule_base.specs.Thin.{is_thin}
 use Rattle.rule_base.specs.State.{IsState, count, opening}
 use Rattle.rule_base.specs.Run.{run}
+use Rattle.rule_base.specs.Ending.{IsBudget}
 use Rattle.firing_core.specs.CoreState.{CoreState, choices_of}
 
 -- what every core keeps
@@ -15,8 +16,7 @@ pub record IsLawful (k : CoreState) : Type 0 where
   -- the state is where the journal's choices lead from the opening
   pub ran : run k.program (opening k.opening) (choices_of k.state.entries) ≡ Some k.state
   pub within : count k.state ≤ k.budget
-  pub some_budget : 1 ≤ k.budget
-  pub small_budget : k.budget ≤ 4000000
+  pub given : IsBudget k.budget
   pub keeps : IsState (sizes_of k.program.classes) k.state
   -- a firing has at most 64 actions, and each makes at most one element
   pub next_is_low : k.state.next ≤ 2 ^ 62 + 64 * count k.state

@@ -4,7 +4,7 @@ ghost use Rattle.std.specs.Prelude.{◌≡◌, ◌≤◌, true, IfOk};
 ghost use Rattle.rule_base.specs.Opening.{IsOpening};
 ghost use Rattle.rule_base.specs.Sound.{IsSound, sizes_of};
 ghost use Rattle.rule_base.specs.Thin.{is_thin};
-ghost use Rattle.rule_base.specs.Ending.{IsEnding};
+ghost use Rattle.rule_base.specs.Ending.{IsBudget, IsEnding};
 ghost use Rattle.firing_core.specs.CoreState.{core_at};
 ghost use Rattle.firing_core.specs.Lawful.{IsLawful};
 ghost use Rattle.firing_core.specs.FinishedRun.{GoesOn, IsFinishedRun};
@@ -59,8 +59,7 @@ pub fn run_alone(
     requires sound { IsSound program.value }
     requires thin { is_thin program.value ≡ true }
     requires begins { IsOpening (sizes_of program.value.classes) opening.now }
-    requires some_budget { 1 ≤ budget }
-    requires small_budget { budget ≤ 4000000 }
+    requires budget { IsBudget budget }
     ensures finished { IfOk result
         (λ finished. IsFinishedRun program.value opening.now budget
         finished.core.state finished.ending) }
@@ -75,6 +74,7 @@ pub fn run_alone(
 fn next_turn(alloc: Global, core: &Core) -> Result<Turn, OutOfMemory>
     ensures { IfOk result (IsTurn core.now) }
 {
+    // Asked first, since every ending keeps within the budget.
     let has_budget = core.has_budget();
     if core.is_halted() {
         return Ok(Turn::End(Ending::Halted));

@@ -3,7 +3,6 @@
 #![tactic(auto)]
 
 mod acceptance;
-mod copies;
 mod evaluation;
 mod finishing;
 mod instantiations;

@@ -6,17 +6,17 @@ ghost use Rattle.rule_base.specs.Sound.{IsSound, sizes_of};
 ghost use Rattle.rule_base.specs.Thin.{is_thin};
 ghost use Rattle.rule_base.specs.State.{count, opening as opening_state};
 ghost use Rattle.rule_base.specs.Step.{may_fire};
+ghost use Rattle.rule_base.specs.Ending.{IsBudget};
 ghost use Rattle.firing_core.specs.CoreState.{core_at};
 ghost use Rattle.firing_core.specs.Lawful.{IsLawful};
 ghost use Rattle.firing_core.specs.Firing.{IsNext, Fires};
 ghost use Rattle.firing_core.specs.Plan.{Plans};
 
-use crate::copies::copied;
 use crate::evaluation::evaluate;
 use crate::instantiations::first_unfired;
 use crate::memory::{change, elements_at};
 use crate::planning::{Plan, planned};
-use ops_text::{OutOfMemory, Sequence};
+use ops_text::{OutOfMemory, Sequence, copied};
 use rule_base::{Choice, Element, Entry, Program};
 use std::alloc::Global;
 use std::marker::Model;
@@ -62,8 +62,7 @@ impl Core {
         requires sound { IsSound program.value }
         requires thin { is_thin program.value ≡ true }
         requires begins { IsOpening (sizes_of program.value.classes) opening.now }
-        requires some_budget { 1 ≤ budget }
-        requires small_budget { budget ≤ 4000000 }
+        requires budget { IsBudget budget }
         ensures { IfOk result
             (λ core. core ≡ core_at program.value opening.now budget (opening_state opening.now)) }
     {
@@ -110,6 +109,7 @@ impl Core {
         self.entries.as_slice()
     }
 
+    /// The program that the core runs.
     pub fn program(&self) -> &Arc<Program>
         ensures { result.now.value ≡ self.now.program }
     {

@@ -6,4 +6,4 @@ use Rattle.firing_core.proofs.machine.Core.new.Goals as goal
 
 pub invariant_of-result : goal.invariant_of-result
 invariant_of-result c =
-    subst IsLawful (search rules) (IsLawful-opening c.args.program.value c.args.opening.now c.args.budget c.requires.sound c.requires.thin c.requires.begins c.requires.some_budget c.requires.small_budget)
+    subst IsLawful (search rules) (IsLawful-opening c.args.program.value c.args.opening.now c.args.budget c.requires.sound c.requires.thin c.requires.begins c.requires.budget)
