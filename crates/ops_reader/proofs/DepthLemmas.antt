@@ -13,7 +13,7 @@ use Rattle.ops_reader.specs.declared.form.FormItem.TheVariants as an_item
 use Rattle.ops_reader.specs.FormTree.{form_tree}
 use Rattle.ops_reader.specs.Token.{Token}
 use Rattle.ops_reader.specs.Grammar.{Phrase, any, setting, expression, operand, term, item, action}
-use Rattle.ops_reader.specs.Shape.{IsShallow, IsShallowSet, IsShallowItem, IsShallowAction}
+use Rattle.ops_reader.specs.Shape.{IsShallow, IsShallowSet, IsShallowItem, IsAction}
 
 mutual
   pub expression_depth : (room : ℕ) (t : Tree) (before : Names) (tokens : List Token) (after : Names) → expression room t before tokens after → depth t ≤ room
@@ -47,12 +47,14 @@ item_is_shallow : (i : FormItem) (before : Names) (tokens : List Token) (after :
 item_is_shallow (an_item.Put t) before tokens after h = term_is_shallow t before tokens after h
 item_is_shallow i before tokens after h = tt
 
-pub action_is_shallow : (one : FormAction) (before : Names) (tokens : List Token) (after : Names) → action one before tokens after → IsShallowAction one
-action_is_shallow (an_action.Make class sets) before tokens after h =
+pub action_has_shape : (one : FormAction) (before : Names) (tokens : List Token) (after : Names) → action one before tokens after → IsAction one
+action_has_shape (an_action.Make class sets) before tokens after h =
     all_of_any (setting term) IsShallowSet set_is_shallow sets h.of_first.between h.of_first.back h.between h.of_first.of_second
-action_is_shallow (an_action.Modify at sets) before tokens after h =
+action_has_shape (an_action.Modify at sets) before tokens after h =
     all_of_any (setting term) IsShallowSet set_is_shallow sets h.of_first.between h.of_first.back h.between h.of_first.of_second
-action_is_shallow (an_action.Bind name t) before tokens after h = term_is_shallow t h.of_first.between h.of_first.back h.between h.of_first.of_second
-action_is_shallow (an_action.Write items) before tokens after h =
+action_has_shape (an_action.Bind name t) before tokens after h = term_is_shallow t h.of_first.between h.of_first.back h.between h.of_first.of_second
+action_has_shape (an_action.Write items) before tokens after h =
     all_of_any item IsShallowItem item_is_shallow items h.of_first.between h.of_first.back h.between h.of_first.of_second
-action_is_shallow one before tokens after h = tt
+action_has_shape (an_action.Remove []) before tokens after h = absurd h.of_first.of_second
+action_has_shape (an_action.Remove (at ∷ ats)) before tokens after h = omega arith
+action_has_shape an_action.Halt before tokens after h = tt

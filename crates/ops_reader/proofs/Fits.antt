@@ -1,5 +1,5 @@
 -- What the slot of a part says of the tokens that may come next, and how it is said of a longer part round it.
-use Rattle.std.proofs.Common.{◌≡◌, ◌⊎◌, inl, inr, ℕ, pos, Bool, true, false, ◌&&◌, List, [], Option, Some, None, ℤ, refl, sym, ap, ◌∙◌, subst}
+use Rattle.std.proofs.Common.{◌≡◌, ◌⊎◌, inl, inr, ℕ, pos, Bool, true, false, ◌&&◌, List, [], Some, None, ℤ, refl, sym, ap, ◌∙◌, subst}
 use Rattle.std.specs.Option.{is_some}
 use Rattle.ops_text.specs.Names.{Names}
 use Rattle.ops_reader.specs.declared.token.Keyword.{Keyword}

@@ -1,5 +1,5 @@
 -- What the slots of the parts of an action say of the tokens that may come next.
-use Rattle.std.proofs.Common.{◌≡◌, ◌⊎◌, inl, inr, ℕ, List, [], ◌∷◌, ◌++◌, Some, refl}
+use Rattle.std.proofs.Common.{◌≡◌, inl, inr, ℕ, List, [], ◌∷◌, ◌++◌, refl}
 use Rattle.ops_text.specs.Names.{Names}
 use Rattle.ops_reader.specs.declared.token.Keyword.TheVariants as a_keyword
 use Rattle.ops_reader.specs.declared.form.FormTerm.{FormTerm}
@@ -18,7 +18,6 @@ use Rattle.ops_reader.specs.declared.part.ItemPart.TheVariants as of_item
 use Rattle.ops_reader.specs.declared.part.ActionPart.{ActionPart}
 use Rattle.ops_reader.specs.declared.part.ActionPart.TheVariants as of_action
 use Rattle.ops_reader.specs.declared.slot.Slot.{Slot}
-use Rattle.ops_reader.specs.declared.slot.Slot.TheVariants as slot
 use Rattle.ops_reader.specs.Token.{Token, Close}
 use Rattle.ops_reader.specs.Taken.{around}
 use Rattle.ops_reader.specs.ExpressionReading.{expression_after}

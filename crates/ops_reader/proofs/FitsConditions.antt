@@ -1,14 +1,12 @@
 -- What the slots of the parts of a condition element say of the tokens that may come next.
-use Rattle.std.proofs.Common.{◌≡◌, ◌⊎◌, inl, inr, ℕ, List, [], ◌∷◌, ◌++◌, None, Some, Option, true, false, refl}
+use Rattle.std.proofs.Common.{◌≡◌, inl, inr, ℕ, List, [], ◌∷◌, None, Some, true, false, refl}
 use Rattle.ops_text.specs.Names.{Names}
-use Rattle.ops_reader.specs.declared.form.FormCond.{FormCond}
 use Rattle.ops_reader.specs.declared.form.Simple.{Simple}
 use Rattle.ops_reader.specs.declared.part.Step.TheVariants.{Part, Whole}
 use Rattle.ops_reader.specs.declared.part.SimplePart.{SimplePart}
 use Rattle.ops_reader.specs.declared.part.SimplePart.TheVariants as of_simple
 use Rattle.ops_reader.specs.declared.part.TestPart.{TestPart}
 use Rattle.ops_reader.specs.declared.part.TestPart.TheVariants as of_test
-use Rattle.ops_reader.specs.declared.part.Pattern.{Pattern}
 use Rattle.ops_reader.specs.declared.part.PatternPart.{PatternPart}
 use Rattle.ops_reader.specs.declared.part.PatternPart.TheVariants as of_pattern
 use Rattle.ops_reader.specs.declared.part.CondPart.{CondPart}

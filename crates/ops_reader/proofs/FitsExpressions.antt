@@ -1,12 +1,10 @@
 -- What the slots of the parts of an expression say of the tokens that may come next.
-use Rattle.std.proofs.Common.{◌≡◌, ◌⊎◌, inl, inr, ℕ, List, [], Some, Option, Bool, true, false, refl, length, nat_lt}
+use Rattle.std.proofs.Common.{inl, inr, List, Bool, true, false, refl, length, nat_lt}
 use Rattle.ops_text.specs.Names.{Names}
 use Rattle.ops_reader.specs.declared.part.Before.{Before}
 use Rattle.ops_reader.specs.declared.part.Inner.{Inner}
 use Rattle.ops_reader.specs.declared.part.Inner.TheVariants as of_inner
-use Rattle.ops_reader.specs.declared.part.ExprPart.{ExprPart}
-use Rattle.ops_reader.specs.declared.form.FormExpr.{FormExpr}
-use Rattle.ops_reader.specs.ExpressionReading.{ahead, parenthesis_opened, expression_after}
+use Rattle.ops_reader.specs.ExpressionReading.{parenthesis_opened, expression_after}
 use Rattle.ops_reader.specs.Slot.{expression_slot}
 use Rattle.ops_reader.proofs.Fits.{Fits, IfPart, IsOpened, LeadsToBind}
 

@@ -6,53 +6,49 @@ use Rattle.ops_reader.specs.declared.form.FormExpr.{FormExpr, roll-FormExpr}
 use Rattle.ops_reader.specs.declared.form.FormOperand.{FormOperand, roll-FormOperand}
 use Rattle.ops_reader.specs.declared.form.FormOperand.TheOpen as open'
 use Rattle.ops_reader.specs.declared.form.FormOperand.TheShapes.{former-FormExpr-rest-at-2}
-use Rattle.ops_reader.specs.declared.form.FormOperand.TheFolds.{fold-FormOperand, fold-roll-FormOperand, fold_out-FormExpr, map-FormOperand, map-FormExpr, ind-FormExpr}
+use Rattle.ops_reader.specs.declared.form.FormOperand.TheFolds.{fold-roll-FormOperand, fold_out-FormExpr, map-FormOperand, map-FormExpr, ind-FormExpr}
 use Rattle.ops_reader.specs.declared.part.Before.TheVariants as of_before
-use Rattle.ops_reader.specs.FormTree.{form_leaf, form_tree}
+use Rattle.ops_reader.specs.FormTree.{form_leaf, form_tree, operand_leaf}
 use Rattle.ops_reader.specs.ExpressionReading.{with_operand, in_parentheses}
-
--- the leaf that an operand is
-abbrev pub leaf : FormOperand → Leaf
-leaf = fold-FormOperand Leaf Tree form_leaf (λ (e : open'.FormExpr-F Leaf Tree). chained e.first e.rest)
 
 -- operators with their operands as leaves
 abbrev pub leaves : List (Op × FormOperand) → List (Op × Leaf)
 leaves [] = []
-leaves (next ∷ rest) = (next.0, leaf next.1) ∷ leaves rest
+leaves (next ∷ rest) = (next.0, operand_leaf next.1) ∷ leaves rest
 
-leaves-mapped : (rest : List (Op × FormOperand)) → map ((former-FormExpr-rest-at-2).map FormOperand Leaf leaf) rest ≡ leaves rest
+leaves-mapped : (rest : List (Op × FormOperand)) → map ((former-FormExpr-rest-at-2).map FormOperand Leaf operand_leaf) rest ≡ leaves rest
 leaves-mapped [] = refl
-leaves-mapped (next ∷ rest) = ap (λ more. (next.0, leaf next.1) ∷ more) (leaves-mapped rest)
+leaves-mapped (next ∷ rest) = ap (λ more. (next.0, operand_leaf next.1) ∷ more) (leaves-mapped rest)
 
 -- the tree of an expression is that of its operands
-pub form_tree-out : (e : FormExpr) → form_tree e ≡ chained (leaf e.first) (leaves e.rest)
-form_tree-out e = fold_out-FormExpr Leaf Tree form_leaf (λ (x : open'.FormExpr-F Leaf Tree). chained x.first x.rest) e ∙ ap (chained (leaf e.first)) (leaves-mapped e.rest)
+pub form_tree-out : (e : FormExpr) → form_tree e ≡ chained (operand_leaf e.first) (leaves e.rest)
+form_tree-out e = fold_out-FormExpr Leaf Tree form_leaf (λ (x : open'.FormExpr-F Leaf Tree). chained x.first x.rest) e ∙ ap (chained (operand_leaf e.first)) (leaves-mapped e.rest)
 
-form_tree-roll : (first : FormOperand) (rest : List (Op × FormOperand)) → form_tree (roll-FormExpr (record { first = first; rest = rest })) ≡ chained (leaf first) (leaves rest)
+form_tree-roll : (first : FormOperand) (rest : List (Op × FormOperand)) → form_tree (roll-FormExpr (record { first = first; rest = rest })) ≡ chained (operand_leaf first) (leaves rest)
 form_tree-roll first rest = form_tree-out (roll-FormExpr (record { first = first; rest = rest }))
 
-pub leaf-Num : (z : _) → leaf (roll-FormOperand (open'.Num z)) ≡ number z
+pub leaf-Num : (z : _) → operand_leaf (roll-FormOperand (open'.Num z)) ≡ number z
 leaf-Num z = fold-roll-FormOperand Leaf Tree form_leaf (λ (x : open'.FormExpr-F Leaf Tree). chained x.first x.rest) (open'.Num z)
 
-pub leaf-Name : (n : _) → leaf (roll-FormOperand (open'.Name n)) ≡ variable n
+pub leaf-Name : (n : _) → operand_leaf (roll-FormOperand (open'.Name n)) ≡ variable n
 leaf-Name n = fold-roll-FormOperand Leaf Tree form_leaf (λ (x : open'.FormExpr-F Leaf Tree). chained x.first x.rest) (open'.Name n)
 
-pub leaf-in_parentheses : (e : FormExpr) → leaf (in_parentheses e) ≡ parentheses (form_tree e)
+pub leaf-in_parentheses : (e : FormExpr) → operand_leaf (in_parentheses e) ≡ parentheses (form_tree e)
 leaf-in_parentheses e = fold-roll-FormOperand Leaf Tree form_leaf (λ (x : open'.FormExpr-F Leaf Tree). chained x.first x.rest) (open'.Paren e)
 
-pub leaves-push : (rest : List (Op × FormOperand)) (op : Op) (operand : FormOperand) → leaves (rest ++ (op, operand) ∷ []) ≡ leaves rest ++ (op, leaf operand) ∷ []
+pub leaves-push : (rest : List (Op × FormOperand)) (op : Op) (operand : FormOperand) → leaves (rest ++ (op, operand) ∷ []) ≡ leaves rest ++ (op, operand_leaf operand) ∷ []
 leaves-push [] op operand = refl
-leaves-push (next ∷ rest) op operand = ap (λ more. (next.0, leaf next.1) ∷ more) (leaves-push rest op operand)
+leaves-push (next ∷ rest) op operand = ap (λ more. (next.0, operand_leaf next.1) ∷ more) (leaves-push rest op operand)
 
 -- the tree of an operand alone
-pub form_tree-alone : (operand : FormOperand) → form_tree (with_operand of_before.Nothing operand) ≡ single (leaf operand)
+pub form_tree-alone : (operand : FormOperand) → form_tree (with_operand of_before.Nothing operand) ≡ single (operand_leaf operand)
 form_tree-alone operand = form_tree-roll operand []
 
 -- the tree of an expression with one more operand
 pub form_tree-with_operand : (e : FormExpr) (op : Op) (operand : FormOperand)
-    → form_tree (with_operand (of_before.Operator e op) operand) ≡ chained (leaf e.first) (leaves e.rest ++ (op, leaf operand) ∷ [])
+    → form_tree (with_operand (of_before.Operator e op) operand) ≡ chained (operand_leaf e.first) (leaves e.rest ++ (op, operand_leaf operand) ∷ [])
 form_tree-with_operand e op operand =
-    form_tree-roll e.first (e.rest ++ (op, operand) ∷ []) ∙ ap (chained (leaf e.first)) (leaves-push e.rest op operand)
+    form_tree-roll e.first (e.rest ++ (op, operand) ∷ []) ∙ ap (chained (operand_leaf e.first)) (leaves-push e.rest op operand)
 
 -- the first operand of a tree, and the operators with theirs
 abbrev mutual
@@ -78,9 +74,9 @@ parts_of-chained : (first : Leaf) (rest : List (Op × Leaf)) → parts_of (chain
 parts_of-chained first [] = refl
 parts_of-chained first (next ∷ rest) = ap (λ (p : FormOperand × List (Op × FormOperand)). (operand_of first, (next.0, p.0) ∷ p.1)) (parts_of-chained next.1 rest)
 
--- the leaf of the operand gives it back
+-- the operand_leaf of the operand gives it back
 abbrev IsBack : FormOperand → Type 0
-IsBack o = operand_of (leaf o) ≡ o
+IsBack o = operand_of (operand_leaf o) ≡ o
 
 -- the tree of the expression gives it back
 abbrev IsWritten : FormExpr → Type 0
@@ -112,7 +108,7 @@ made parts = roll-FormExpr (record { first = parts.0; rest = parts.1 })
 parts_are_back : (first : (o : FormOperand) × IsBack o) (rest : List (Op × ((o : FormOperand) × IsBack o))) → IsWritten (made (first.0, bare rest))
 unfolding made
 parts_are_back first rest =
-    ap written (form_tree-roll first.0 (bare rest)) ∙ ap made (parts_of-chained (leaf first.0) (leaves (bare rest)))
+    ap written (form_tree-roll first.0 (bare rest)) ∙ ap made (parts_of-chained (operand_leaf first.0) (leaves (bare rest)))
     ∙ ap (λ o. made (o, operands (leaves (bare rest)))) first.1 ∙ ap (λ more. made (first.0, more)) (operands-leaves rest)
 
 expression_is_written : (e : open'.FormExpr-F ((o : FormOperand) × IsBack o) ((e : FormExpr) × IsWritten e))

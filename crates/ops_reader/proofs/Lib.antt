@@ -24,6 +24,8 @@ pub mod ViableConditions
 pub mod Viable
 pub mod Runs
 pub mod ExactLemmas
+pub mod TokenCounts
+pub mod NumberCounts
 pub mod FormShapes
 pub mod CutLemmas
 pub mod PlaceLemmas

@@ -1,5 +1,5 @@
 -- A text is refused at one place for one reason, and a text of forms nowhere.
-use Rattle.std.proofs.Common.{◌≡◌, ◌⊎◌, inl, inr, ℕ, zero, suc, ◌<◌, ◌≤◌, List, [], ◌∷◌, ◌++◌, length, take, drop, Option, Some, None, refl, sym, ap, ◌∙◌, append_assoc, append-nil, arith, subst}
+use Rattle.std.proofs.Common.{◌≡◌, ◌⊎◌, inl, inr, ℕ, zero, suc, ◌<◌, ◌≤◌, List, [], ◌∷◌, ◌++◌, take, Some, refl, sym, ap, ◌∙◌, append_assoc, append-nil, arith, subst}
 use Rattle.std.specs.List.{slice_get}
 use Rattle.std.proofs.lemmas.Bool.{cases_lt}
 use Rattle.std.proofs.lemmas.Option.{same_Some}
@@ -11,7 +11,7 @@ use Rattle.ops_reader.specs.Token.{Token, Open, Close, Slashes, Integer, Plain, 
 use Rattle.ops_reader.specs.Tokens.{tokens_of}
 use Rattle.ops_reader.specs.Places.{places_of}
 use Rattle.ops_reader.specs.Grammar.{IsText}
-use Rattle.ops_reader.specs.Refusal.{BeginsText, MayStand, TakesOperand, IsLeftOutWord, IsQuote, IsEmptyBind, IsTooDeep, IsOutOfRange, kind_of_fault, HasFault, IsOfKind, IsWrongToken, EndsEarly, IsRefusedAt}
+use Rattle.ops_reader.specs.Refusal.{BeginsText, MayStand, IsLeftOutWord, IsQuote, IsEmptyBind, IsTooDeep, IsOutOfRange, kind_of_fault, HasFault, IsOfKind, IsWrongToken, IsRefusedAt}
 use Rattle.ops_reader.specs.Decided.{SpellsForms, IsRefusedSomewhere}
 
 -- the kind of what is wrong with a token by itself is told by the fault

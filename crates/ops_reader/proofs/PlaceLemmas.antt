@@ -1,13 +1,15 @@
 -- Where the tokens of a text begin, from its front on.
-use Rattle.std.proofs.Common.{◌≡◌, ℕ, suc, ◌+◌, ◌<◌, ◌≤◌, Bool, true, false, List, [], ◌∷◌, ◌++◌, length, take, drop, map, refl, sym, ap, ◌∙◌, append_assoc, append-nil, length-append, arith, subst, length-drop, take-append-drop, take_all}
+use Rattle.std.proofs.Common.{◌≡◌, ℕ, suc, ◌+◌, ◌-◌, ◌<◌, ◌≤◌, true, false, List, [], ◌∷◌, ◌++◌, length, map, take, drop, refl, sym, ap, ◌∙◌, length-append, arith, subst, length-drop, take-append-drop, take_all}
 use Rattle.std.specs.List.{list_all, prefix_len}
 use Rattle.std.proofs.lemmas.List.Folds.{length-prefix_len}
 use Rattle.std.specs.Str.{byte}
 use Rattle.ops_reader.specs.declared.byte.ByteKind.{ByteKind}
-use Rattle.ops_reader.specs.declared.byte.ByteKind.TheVariants.{LineFeed, Bar, Letter}
+use Rattle.ops_reader.specs.declared.byte.ByteKind.TheVariants.{Blank, LineFeed, Bar, Open, Close, OpenBrace, CloseBrace, Caret, Letter}
 use Rattle.ops_reader.specs.Byte.{kind_of, is_letter_kind, is_letter, stands_in_bars, stands_in_line, AreAll, BeginsWithout}
-use Rattle.ops_reader.specs.Tokens.{Between, Comment, Word, Bars, mark, begun, after}
-use Rattle.ops_reader.specs.Places.{lefts_made, lefts, lefts_of}
+use Rattle.ops_reader.specs.Token.{Token}
+use Rattle.ops_reader.specs.Tokens.{Scan, Between, Comment, Word, Bars, mark, made, begun, after, at_end, tokens}
+use Rattle.ops_reader.specs.Places.{lefts_made, lefts_at_end, lefts, lefts_of}
+use Rattle.ops_reader.specs.CutPlaces.{HavePlaces}
 use Rattle.ops_reader.proofs.CutLemmas.{both_true, is_bar, is_line_feed, not_bar, not_line_feed, line_feed, is_the_bar, prefix_passes, prefix_stops}
 
 -- the first place, from two lengths
@@ -121,3 +123,56 @@ bars_open_place text [] split none =
     let all : length text ≤ n = omega (arith, length-drop n text, ap length split) in
     in_open_bars [] text (subst (AreAll stands_in_bars) (take_all n text all) (prefix_passes stands_in_bars text))
 bars_open_place text (b ∷ bs) split none = absurd (omega arith)
+
+-- each token has a place
+length-map_any : {A B : Type 0} (f : A → B) (xs : List A) → length (map f xs) ≡ length xs
+length-map_any f [] = refl
+length-map_any f (x ∷ xs) = ap suc (length-map_any f xs)
+
+as_many_made : (scan : Scan) (kind : ByteKind) (left : ℕ) → length (lefts_made scan kind left) ≡ length (made scan kind)
+as_many_made Between kind left = length-map_any (λ token. left) (mark kind)
+as_many_made Comment kind left = refl
+as_many_made (Word word) Letter left = refl
+as_many_made (Word word) kind left = ap suc (length-map_any (λ token. left) (mark kind))
+as_many_made (Bars content) Bar left = refl
+as_many_made (Bars content) kind left = refl
+
+as_many_at_end : (scan : Scan) → length (lefts_at_end scan) ≡ length (at_end scan)
+as_many_at_end Between = refl
+as_many_at_end Comment = refl
+as_many_at_end (Word word) = refl
+as_many_at_end (Bars content) = refl
+
+pub as_many : (scan : Scan) (text : List ℕ) → length (lefts scan text) ≡ length (tokens scan text)
+as_many scan [] = as_many_at_end scan
+as_many scan (b ∷ bs) =
+    let kind = kind_of b in
+    let left = suc (length bs) in
+    let places = lefts (after scan kind b) bs in
+    let more = tokens (after scan kind b) bs in
+    omega (arith, length-append (lefts_made scan kind left) places, length-append (made scan kind) more, as_many_made scan kind left, as_many (after scan kind b) bs)
+
+-- what vanishes has no place, and a mark stands at its byte
+blank_is : (b : ℕ) (rest : List ℕ) → kind_of b ≡ Blank → lefts_of (b ∷ rest) ≡ lefts_of rest
+blank_is b rest kind = ap (λ k. lefts_made Between k (suc (length rest)) ++ lefts (after Between k b) rest) kind
+
+mark_goes : (kind : ByteKind) (b left : ℕ) (rest : List ℕ) (token : Token) → mark kind ≡ token ∷ [] → lefts_made Between kind left ++ lefts (begun kind b) rest ≡ left ∷ lefts_of rest
+mark_goes Open b left rest token h = refl
+mark_goes Close b left rest token h = refl
+mark_goes OpenBrace b left rest token h = refl
+mark_goes CloseBrace b left rest token h = refl
+mark_goes Caret b left rest token h = refl
+mark_goes kind b left rest token h = absurd (cc)
+
+pub have_places : HavePlaces
+have_places = record {
+  each = λ text. length-map_any (λ left. length text - left) (lefts_of text) ∙ as_many Between text;
+  at_the_end = refl;
+  blank = blank_is;
+  line_feed = λ rest. refl;
+  comment = in_line;
+  marks = λ b rest token. mark_goes (kind_of b) b (suc (length rest)) rest token;
+  word = word_is;
+  barred = λ content rest all. in_bars [] content rest all ∙ same_first (1 + length (content ++ byte "|" ∷ rest)) (length (byte "|" ∷ content ++ byte "|" ∷ rest)) (lefts_of rest) (omega arith);
+  bar_without_end = in_open_bars [];
+}

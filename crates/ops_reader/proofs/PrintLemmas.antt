@@ -1,16 +1,14 @@
 -- Texts that are printed piece by piece.
-use Rattle.std.proofs.Common.{◌≡◌, ℕ, ◌+◌, ◌<◌, List, [], ◌∷◌, ◌++◌, length, take, get_or, map, codes, sym, ap, ◌∙◌, append_assoc, append-nil}
+use Rattle.std.proofs.Common.{◌≡◌, ℕ, List, [], ◌∷◌, ◌++◌, codes, sym, ap, ◌∙◌, append_assoc, append-nil}
 use Rattle.std.specs.List.{flat_map}
-use Rattle.std.proofs.lemmas.List.{take_more}
-use Rattle.std.proofs.lemmas.Grind.{flat_map-append}
 use Rattle.ops_text.specs.Names.{Names}
 use Rattle.rule_base.specs.declared.expression.Op.{Op}
-use Rattle.rule_base.specs.Expression.{Tree, Leaf, chained}
+use Rattle.rule_base.specs.Expression.{Leaf, chained}
 use Rattle.ops_reader.specs.declared.form.FormExpr.{FormExpr}
 use Rattle.ops_reader.specs.declared.form.FormOperand.{FormOperand}
 use Rattle.ops_reader.specs.FormTree.{form_tree, operand_leaf}
 use Rattle.ops_reader.specs.CanonicalActions.{operator_text, operand_text, expression_text}
-use Rattle.ops_reader.proofs.FormTreeLemmas.{leaf, leaves, form_tree-out}
+use Rattle.ops_reader.proofs.FormTreeLemmas.{leaves, form_tree-out}
 
 -- the text of an operator with its operand
 abbrev pub link_text : Names → Op × FormOperand → List ℕ
@@ -29,4 +27,4 @@ chained_text names first (link ∷ links) =
 -- the text of an expression from its first operand on
 pub expression_text-links : (names : Names) (e : FormExpr) → expression_text names (form_tree e) ≡ operand_text names (operand_leaf e.first) ++ links_text names e.rest
 expression_text-links names e =
-    ap (expression_text names) (form_tree-out e) ∙ chained_text names (leaf e.first) e.rest
+    ap (expression_text names) (form_tree-out e) ∙ chained_text names (operand_leaf e.first) e.rest

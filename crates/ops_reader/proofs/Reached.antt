@@ -1,5 +1,5 @@
 -- What has been read of the tokens of a text, with their places, and what follows where one is refused or none is left.
-use Rattle.std.proofs.Common.{◌≡◌, ◌⊎◌, inl, inr, ℕ, zero, suc, ◌-◌, ◌<◌, ◌^◌, Bool, true, false, List, [], ◌∷◌, ◌++◌, Option, Some, None, length, map, take, refl, sym, ap, ◌∙◌, append_assoc, append-nil, length-append, arith, subst}
+use Rattle.std.proofs.Common.{◌≡◌, inl, inr, ℕ, ◌-◌, false, List, [], ◌∷◌, ◌++◌, Some, None, length, take, refl, sym, ap, ◌∙◌, append_assoc, append-nil, length-append, arith, subst}
 use Rattle.std.specs.Option.{is_some, option_map, option_and_then}
 use Rattle.std.specs.List.{slice_get}
 use Rattle.std.proofs.lemmas.List.{take_at}
@@ -10,13 +10,11 @@ use Rattle.ops_reader.specs.declared.part.FormPart.{FormPart}
 use Rattle.ops_reader.specs.declared.part.FormPart.TheVariants as of_form
 use Rattle.ops_reader.specs.declared.refusal.FormsRefusal.{FormsRefusal}
 use Rattle.ops_reader.specs.declared.refusal.FormsRefusal.TheVariants.{Syntax, OutOfMemory}
-use Rattle.ops_reader.specs.declared.refusal.SyntaxKind.{SyntaxKind}
 use Rattle.ops_reader.specs.declared.refusal.SyntaxKind.TheVariants.{Unclosed}
 use Rattle.ops_reader.specs.Token.{Token}
 use Rattle.ops_reader.specs.Tokens.{tokens_of}
-use Rattle.ops_reader.specs.Places.{lefts_of, places_of}
-use Rattle.ops_reader.specs.Grammar.{IsText}
-use Rattle.ops_reader.specs.Refusal.{BeginsText, MayStand, IsOfKind, IsWrongToken, EndsEarly, IsRefusedAt}
+use Rattle.ops_reader.specs.Places.{lefts_of}
+use Rattle.ops_reader.specs.Refusal.{BeginsText, MayStand, IsOfKind, IsRefusedAt}
 use Rattle.ops_reader.specs.FormReading.{form_after}
 use Rattle.ops_reader.specs.Taken.{Taken}
 use Rattle.ops_reader.specs.declared.part.Step.{Step}

@@ -1,5 +1,5 @@
 -- What the reader answers, from what has been read.
-use Rattle.std.proofs.Common.{◌≡◌, ℕ, List, Some, ap, ◌∙◌}
+use Rattle.std.proofs.Common.{◌≡◌, List, Some, ap, ◌∙◌}
 use Rattle.ops_text.specs.Names.{Names}
 use Rattle.ops_reader.specs.declared.form.Form.{Form}
 use Rattle.ops_reader.specs.declared.part.Progress.{Progress}

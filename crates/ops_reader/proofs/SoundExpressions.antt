@@ -17,12 +17,12 @@ use Rattle.ops_reader.specs.declared.part.Before.TheVariants as of_before
 use Rattle.ops_reader.specs.declared.part.Inner.{Inner}
 use Rattle.ops_reader.specs.declared.part.Inner.TheVariants as of_inner
 use Rattle.ops_reader.specs.Token.{Token, Open, Close, Minus, Slashes, Integer, Plain}
-use Rattle.ops_reader.specs.FormTree.{form_tree}
+use Rattle.ops_reader.specs.FormTree.{form_tree, operand_leaf}
 use Rattle.ops_reader.specs.Grammar.{Phrase, nothing, never, ◌⨾◌, the, variable, operator, expression, operand}
 use Rattle.ops_reader.specs.Taken.{variable_of}
 use Rattle.ops_reader.specs.ExpressionReading.{operator_of, with_operand, in_parentheses, behind, ahead, parenthesis_closed, closed, parenthesis_opened, operand_of, operand_after, operator_after, inner_after, expression_after}
 use Rattle.ops_reader.proofs.Phrases.{Implies, Extends, then_one, within, Extends-weaker}
-use Rattle.ops_reader.proofs.FormTreeLemmas.{leaf, leaves, leaf-Num, leaf-Name, leaf-in_parentheses, form_tree-out, form_tree-alone, form_tree-with_operand}
+use Rattle.ops_reader.proofs.FormTreeLemmas.{leaves, leaf-Num, leaf-Name, leaf-in_parentheses, form_tree-out, form_tree-alone, form_tree-with_operand}
 use Rattle.ops_reader.proofs.SoundBasics.{IsSpelled, IsOneToken, grown_by, mapped_spelled, variable_spelled, open_part}
 
 -- phrases are grouped anew
@@ -91,10 +91,10 @@ abbrev pub whole_expression : FormExpr → Phrase
 whole_expression e = expression 32 (form_tree e) ⨾ the Close
 
 -- an operand behind what stands before it
-then_operand : (room : ℕ) (before : Before) (o : FormOperand) → Implies (begun_before room before ⨾ operand room (leaf o)) (expression room (form_tree (with_operand before o)))
-then_operand room of_before.Nothing o before tokens after h = rw (form_tree-alone o) (behind_nothing (operand room (leaf o)) before tokens after h)
+then_operand : (room : ℕ) (before : Before) (o : FormOperand) → Implies (begun_before room before ⨾ operand room (operand_leaf o)) (expression room (form_tree (with_operand before o)))
+then_operand room of_before.Nothing o before tokens after h = rw (form_tree-alone o) (behind_nothing (operand room (operand_leaf o)) before tokens after h)
 then_operand room (of_before.Operator e op) o before tokens after h =
-    rw (form_tree-with_operand e op o) (expression-push room (leaf e.first) (leaves e.rest) op (leaf o) before tokens after (rw (← form_tree-out e) h))
+    rw (form_tree-with_operand e op o) (expression-push room (operand_leaf e.first) (leaves e.rest) op (operand_leaf o) before tokens after (rw (← form_tree-out e) h))
 
 -- what a token makes of the part behind the last open parenthesis, it makes of the whole part
 outer_extends : (outer : List Before) (room : ℕ) (inner more : Inner) (names : Names) (token : Token) (after : Names)
@@ -150,7 +150,7 @@ closed_spelled (before ∷ outer) e names = parenthesis_closes before outer 32 e
 
 -- an operand without parentheses, wherever it stands
 abbrev one_operand : FormOperand → Phrase
-one_operand o before tokens after = (room : ℕ) → operand room (leaf o) before tokens after
+one_operand o before tokens after = (room : ℕ) → operand room (operand_leaf o) before tokens after
 
 operand_of_spelled : (names : Names) (token : Token) → IsOneToken one_operand names token (operand_of names token)
 operand_of_spelled names (Integer z) = λ room. rw (leaf-Num z) (refl, refl)
@@ -169,8 +169,8 @@ operand_spelled names outer before Open = parenthesis_spelled (nat_lt (length ou
 operand_spelled names outer before token =
     grown_by begun_expression whole_expression (begun_outer outer 32 (of_inner.Before before)) names token (behind outer before) one_operand (operand_of names token) (operand_of_spelled names token)
     (λ o after one. outer_extends outer 32 (of_inner.Before before) (of_inner.Behind (with_operand before o)) names token after
-    (λ r. Extends-weaker (begun_before r before) (begun_before r before ⨾ operand r (leaf o)) (expression r (form_tree (with_operand before o))) names token after
-    (then_one (begun_before r before) (operand r (leaf o)) names token after (one r)) (then_operand r before o)))
+    (λ r. Extends-weaker (begun_before r before) (begun_before r before ⨾ operand r (operand_leaf o)) (expression r (form_tree (with_operand before o))) names token after
+    (then_one (begun_before r before) (operand r (operand_leaf o)) names token after (one r)) (then_operand r before o)))
 
 operator_of_spelled : (names : Names) (token : Token) → IfSome (operator_of token) (λ o. operator o names (token ∷ []) names)
 operator_of_spelled names (Plain word (Some a_keyword.Plus)) = (word, refl, refl)

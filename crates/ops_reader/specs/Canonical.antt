@@ -8,15 +8,18 @@ use Rattle.ops_reader.specs.CanonicalValues.{symbol_text, constant_text, spaced,
 use Rattle.ops_reader.specs.CanonicalConditions.{condition_text}
 use Rattle.ops_reader.specs.CanonicalActions.{action_text}
 
+-- the word for a strategy
 abbrev pub strategy_text : Bool → List ℕ
 strategy_text true = codes "mea"
 strategy_text false = codes "lex"
 
+-- a form, without the end of its line
 abbrev pub form_text : Names → Form → List ℕ
 form_text names (a_form.Literalize class attrs) = codes "(literalize " ++ symbol_text names class ++ spaced (symbol_text names) attrs ++ codes ")"
 form_text names (a_form.P name conds actions) =
     codes "(p " ++ symbol_text names name ++ spaced (condition_text names) conds ++ codes " -->" ++ spaced (action_text names) actions ++ codes ")"
-form_text names (a_form.Make class sets) = codes "(make " ++ symbol_text names class ++ spaced (setting_text names (constant_text names)) sets ++ codes ")"
+form_text names (a_form.Make class sets) =
+    codes "(make " ++ symbol_text names class ++ spaced (setting_text names (constant_text names)) sets ++ codes ")"
 form_text names (a_form.Strategy mea) = codes "(strategy " ++ strategy_text mea ++ codes ")"
 form_text names (a_form.Watch level) = codes "(watch " ++ decimal level ++ codes ")"
 

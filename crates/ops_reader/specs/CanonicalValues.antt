@@ -28,9 +28,11 @@ is_bare name = nat_lt 0 (length name) && list_all is_letter name && is_plain (wo
 abbrev pub bare_or_barred : List ℕ → List ℕ
 bare_or_barred name = if is_bare name then name else codes "|" ++ name ++ codes "|"
 
+-- the symbol of the name with this number
 unfoldable pub symbol_text : Names → ℕ → List ℕ
 symbol_text names n = bare_or_barred (name_at names n)
 
+-- the variable of the name with this number
 abbrev pub variable_text : Names → ℕ → List ℕ
 variable_text names n = codes "<" ++ name_at names n ++ codes ">"
 
@@ -39,6 +41,7 @@ abbrev pub constant_text : Names → Value → List ℕ
 constant_text names (a_value.Int z) = signed_decimal z
 constant_text names (a_value.Sym n) = symbol_text names n
 
+-- a constant or a variable
 abbrev pub argument_text : Names → FormArg → List ℕ
 argument_text names (an_argument.Con v) = constant_text names v
 argument_text names (an_argument.Name n) = variable_text names n

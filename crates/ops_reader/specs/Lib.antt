@@ -13,6 +13,7 @@ pub mod Actions
 pub mod Grammar
 pub mod LeftOut
 pub mod Refusal
+pub mod Named
 pub mod Shape
 pub mod FormPlace
 -- what reading makes of one more token
@@ -30,6 +31,7 @@ pub mod Kind
 pub mod Outcome
 -- laws
 pub mod Cut
+pub mod CutPlaces
 pub mod WordShapes
 pub mod Exact
 pub mod Decided
@@ -41,5 +43,4 @@ pub mod CanonicalValues
 pub mod CanonicalConditions
 pub mod CanonicalActions
 pub mod Canonical
-pub mod Named
 pub mod RoundTrip

@@ -22,10 +22,12 @@ use Rattle.ops_reader.specs.declared.form.FormItem.{FormItem}
 use Rattle.ops_reader.specs.declared.form.FormItem.TheVariants as an_item
 use Rattle.ops_reader.specs.FormTree.{form_tree}
 
+-- a symbol has the number of its name
 abbrev pub numbers_in_value : Value → List ℕ
 numbers_in_value (a_value.Int z) = []
 numbers_in_value (a_value.Sym n) = n ∷ []
 
+-- a constant or a variable
 abbrev pub numbers_in_argument : FormArg → List ℕ
 numbers_in_argument (an_argument.Con v) = numbers_in_value v
 numbers_in_argument (an_argument.Name n) = n ∷ []
@@ -34,6 +36,7 @@ numbers_in_argument (an_argument.Name n) = n ∷ []
 abbrev pub numbers_in_setting : {A : Type 0} → (A → List ℕ) → ℕ × A → List ℕ
 numbers_in_setting numbers_in set = set.0 ∷ numbers_in set.1
 
+-- one test
 abbrev pub numbers_in_simple : Simple → List ℕ
 numbers_in_simple (a_test.Plain a) = numbers_in_argument a
 numbers_in_simple (a_test.Cmp p a) = numbers_in_argument a
@@ -44,32 +47,39 @@ abbrev pub numbers_in_option : Option ℕ → List ℕ
 numbers_in_option None = []
 numbers_in_option (Some n) = n ∷ []
 
+-- a condition element: its class, its element variable, and its attributes with their tests
 abbrev pub numbers_in_condition : FormCond → List ℕ
 numbers_in_condition c = c.class ∷ numbers_in_option c.named ++ flat_map (numbers_in_setting (flat_map numbers_in_simple)) c.tests
 
 abbrev mutual
+  -- an expression
   pub numbers_in_tree : Tree → List ℕ
   numbers_in_tree (single leaf) = numbers_in_leaf leaf
   numbers_in_tree (joined leaf op rest) = numbers_in_leaf leaf ++ numbers_in_tree rest
 
+  -- an operand
   pub numbers_in_leaf : Leaf → List ℕ
   numbers_in_leaf (number z) = []
   numbers_in_leaf (variable n) = n ∷ []
   numbers_in_leaf (parentheses inner) = numbers_in_tree inner
 
+-- a value
 abbrev pub numbers_in_term : FormTerm → List ℕ
 numbers_in_term (a_term.Con v) = numbers_in_value v
 numbers_in_term (a_term.Name n) = n ∷ []
 numbers_in_term (a_term.Compute e) = numbers_in_tree (form_tree e)
 
+-- the number of a condition element, or an element variable
 abbrev pub numbers_in_designator : At → List ℕ
 numbers_in_designator (a_place.Number z) = []
 numbers_in_designator (a_place.Name n) = n ∷ []
 
+-- what is written
 abbrev pub numbers_in_item : FormItem → List ℕ
 numbers_in_item (an_item.Put t) = numbers_in_term t
 numbers_in_item other = []
 
+-- an action
 abbrev pub numbers_in_action : FormAction → List ℕ
 numbers_in_action (an_action.Make class sets) = class ∷ flat_map (numbers_in_setting numbers_in_term) sets
 numbers_in_action (an_action.Modify at sets) = numbers_in_designator at ++ flat_map (numbers_in_setting numbers_in_term) sets
@@ -78,6 +88,7 @@ numbers_in_action (an_action.Bind name t) = name ∷ numbers_in_term t
 numbers_in_action (an_action.Write items) = flat_map numbers_in_item items
 numbers_in_action an_action.Halt = []
 
+-- a form
 abbrev pub numbers_in_form : Form → List ℕ
 numbers_in_form (a_form.Literalize class attrs) = class ∷ attrs
 numbers_in_form (a_form.P name conds actions) = name ∷ flat_map numbers_in_condition conds ++ flat_map numbers_in_action actions

@@ -1,5 +1,5 @@
 -- Why a text is refused: the place and the kind of the first token with which no text of the grammar goes on, or its end.
-use Rattle.std.specs.Prelude.{◌≡◌, ◌⊎◌, ℕ, pos, true, List, [], ◌∷◌, ◌++◌, None, Some, length, take, slice_get}
+use Rattle.std.specs.Prelude.{◌≡◌, ◌⊎◌, ℕ, pos, true, List, [], ◌∷◌, ◌++◌, Some, length, take, slice_get}
 use Rattle.ops_text.specs.Names.{Names}
 use Rattle.ops_reader.specs.declared.token.Keyword.{Keyword}
 use Rattle.ops_reader.specs.declared.token.Keyword.TheVariants as a_keyword

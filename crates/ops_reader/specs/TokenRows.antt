@@ -6,6 +6,7 @@ use Rattle.ops_reader.specs.declared.token.Keyword.TheVariants as keyword
 use Rattle.ops_reader.specs.declared.token.LexicalFault.TheVariants.{Unclosed, BadNumeral, LongSymbol, NotInProfile}
 use Rattle.ops_reader.specs.Token.{Token, Open, Close, Caret, Arrow, Minus, Slashes, OpenList, CloseList, Predicate, Variable, Integer, Plain, Barred, Bad}
 use Rattle.ops_reader.specs.Tokens.{tokens_of}
+use Rattle.ops_reader.specs.Places.{places_of}
 
 -- a symbol that is no keyword
 abbrev pub symbol : List ℕ → Token
@@ -64,3 +65,12 @@ pub record AreEndRows : Type 0 where
   pub too_long_in_bars : IsOne (byte "|" ∷ replicate 256 (byte "a") ++ codes "|") (Bad LongSymbol)
   pub longest_name : IsOne (byte "<" ∷ replicate 255 (byte "a") ++ codes ">") (Variable (replicate 255 (byte "a")))
   pub too_long_name : IsOne (byte "<" ∷ replicate 256 (byte "a") ++ codes ">") (Bad LongSymbol)
+
+-- the byte at which each token begins, counted from 0
+pub record ArePlaceRows : Type 0 where
+  pub none : places_of (codes " ; a") ≡ []
+  pub words_and_marks : places_of (codes "(p ab^x)") ≡ 0 ∷ 1 ∷ 3 ∷ 5 ∷ 6 ∷ 7 ∷ []
+  pub behind_a_comment : places_of (codes "a;(b" ++ 10 ∷ codes " c") ≡ 0 ∷ 6 ∷ []
+  pub bars : places_of (codes "ab|c d| e") ≡ 0 ∷ 2 ∷ 8 ∷ []
+  pub all_of_them : places_of (codes "(a ;b" ++ 10 ∷ codes "|c d|") ≡ 0 ∷ 1 ∷ 6 ∷ []
+  pub bar_without_end : places_of (codes "a |b c") ≡ 0 ∷ 6 ∷ []

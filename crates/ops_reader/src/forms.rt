@@ -37,6 +37,7 @@ impl Forms {
         Forms { forms }
     }
 
+    /// The forms in the order of their text.
     pub fn as_slice(&self) -> &[Form]
         ensures forms { result.now ≡ self.now }
         ensures shape { AreForms self.now }

@@ -52,6 +52,7 @@ fn kind_of_head(word: &[u8]) -> SyntaxKind
 fn is_left_out(word: &[u8]) -> bool
     ensures { result ≡ is_left_out word.now }
 {
+    // A `match` of so many byte strings isn't proved today.
     word == b"literal".as_slice()
         || word == b"vector-attribute".as_slice()
         || word == b"external".as_slice()

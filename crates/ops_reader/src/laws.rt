@@ -2,7 +2,8 @@
 
 ghost use Rattle.ops_reader.specs.WordShapes.{HasShapeOfItsKind};
 ghost use Rattle.ops_reader.specs.Cut.{FallsIntoTokens};
-ghost use Rattle.ops_reader.specs.TokenRows.{AreAngleRows, AreNumberRows, AreEndRows};
+ghost use Rattle.ops_reader.specs.CutPlaces.{HavePlaces};
+ghost use Rattle.ops_reader.specs.TokenRows.{AreAngleRows, AreNumberRows, AreEndRows, ArePlaceRows};
 ghost use Rattle.ops_reader.specs.FormRows.{AreFormRows, AreRefusedRows};
 ghost use Rattle.ops_reader.specs.RuleRows.{AreConditionRows, AreActionRows};
 ghost use Rattle.std.specs.Prelude.{ℕ, List};
@@ -13,11 +14,12 @@ ghost use Rattle.ops_reader.specs.Exact.{ReadsFronts, ReadsTexts, HasOneReading}
 ghost use Rattle.ops_reader.specs.Decided.{IsDecided};
 ghost use Rattle.ops_reader.specs.RoundTrip.{ReadsBack, TextFormsAreNamed};
 
-/// Tokens of texts that are easily read otherwise.
+/// Tokens of texts that are easily read otherwise, and the places of some.
 pub fn token_rows()
     ensures angles { AreAngleRows }
     ensures numbers { AreNumberRows }
     ensures ends { AreEndRows }
+    ensures places { ArePlaceRows }
 {}
 
 /// Forms and names of texts, and texts that are refused.
@@ -50,6 +52,11 @@ pub fn texts_are_decided()
 /// bars is a symbol.
 pub fn text_falls_into_tokens()
     ensures { FallsIntoTokens }
+{}
+
+/// Each token stands at its first byte, but a bar without a second one is wrong at the end of the text.
+pub fn tokens_have_places()
+    ensures { HavePlaces }
 {}
 
 /// Variables, integers and floating-point numbers are exactly the words of their shapes.

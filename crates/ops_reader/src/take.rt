@@ -35,7 +35,8 @@ fn constant_name(token: Token<'_>) -> Option<&[u8]>
     }
 }
 
-fn predicate_name(pred: Pred) -> &'static [u8]
+/// The word that a predicate is.
+pub(crate) fn predicate_name(pred: Pred) -> &'static [u8]
     ensures { result.now ≡ predicate_name pred }
 {
     match pred {

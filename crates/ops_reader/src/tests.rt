@@ -18,7 +18,7 @@ fn refusal_of(
     alloc: Global,
     text: &[u8],
 ) -> Result<Option<(u64, SyntaxKind)>, Fail> {
-    assert!(rt; text.len() < 600_000);
+    assert!(rt; text.len() < 5_000_000);
     let mut symbols = Symbols::new(alloc)?;
     match read_forms(alloc, text, &mut symbols) {
         Ok(_) => Ok(None),

@@ -49,6 +49,7 @@ fn sign_of(word: &[u8]) -> Option<Token<'static>>
 fn keyword_of(word: &[u8]) -> Option<Keyword>
     ensures { result ≡ keyword_of word.now }
 {
+    // A `match` of so many byte strings isn't proved today.
     if word == b"literalize".as_slice() {
         Some(Keyword::Literalize)
     } else if word == b"p".as_slice() {

@@ -1,28 +1,13 @@
 //! The texts of condition elements.
 
 ghost use Rattle.std.specs.Prelude.{◌≡◌, ◌++◌, OnOk};
-ghost use Rattle.ops_reader.specs.Naming.{predicate_name};
 ghost use Rattle.ops_reader.specs.CanonicalConditions.{simple_text, test_text, pattern_text, condition_text};
 
 use crate::print::values::{print_symbol, print_variable};
 use crate::print::{Print, print_last, print_spaced};
+use crate::take::predicate_name;
 use crate::{FormCond, Simple};
 use ops_text::{OutOfMemory, Sequence, Symbols};
-use rule_base::Pred;
-
-fn predicate_name(pred: Pred) -> &'static [u8]
-    ensures { result.now ≡ predicate_name pred }
-{
-    match pred {
-        Pred::Eq => b"=",
-        Pred::Ne => b"<>",
-        Pred::Lt => b"<",
-        Pred::Le => b"<=",
-        Pred::Gt => b">",
-        Pred::Ge => b">=",
-        Pred::Same => b"<=>",
-    }
-}
 
 impl Print for Simple {
     ghost text = { simple_text };

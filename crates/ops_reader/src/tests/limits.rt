@@ -1,7 +1,7 @@
 //! Names, numerals and parentheses at their limits.
 
 use super::refusal_of;
-use crate::SyntaxKind::{self, BadNumeral, LongSymbol, TooDeep, Unclosed};
+use crate::SyntaxKind::{self, BadNumeral, LongSymbol, TooDeep, Unclosed, Unexpected};
 use std::alloc::Global;
 use std::process::Abort;
 use std::test::Fail;
@@ -74,6 +74,23 @@ fn the_33rd_parenthesis_is_too_deep(rt: HostRuntime) -> Result<(), Fail> {
     for (front, times, expected) in rows {
         let refusal = refusal_with(&rt, rt.alloc(), front, b'(', times, "")?;
         assert_eq!(rt; refusal, expected, "{front} {times}");
+    }
+    Ok(())
+}
+
+// Each takes a moment: a reader that looked at bytes again and again would run out of time.
+#[test]
+fn long_texts_are_refused_in_a_moment(rt: HostRuntime) -> Result<(), Fail> {
+    let rows = [
+        ("", b'a', 4_194_304, 0, LongSymbol),
+        ("(make ", b'a', 4_194_298, 6, LongSymbol),
+        ("", b'(', 4_194_304, 1, Unexpected),
+        ("|", b'a', 4_194_303, 4_194_304, Unclosed),
+        ("(make a ^x |", b'(', 4_194_292, 4_194_304, Unclosed),
+    ];
+    for (front, piece, times, at, kind) in rows {
+        let refusal = refusal_with(&rt, rt.alloc(), front, piece, times, "")?;
+        assert_eq!(rt; refusal, Some((at, kind)), "{front} {piece}");
     }
     Ok(())
 }

@@ -4,6 +4,22 @@ use super::refusal_of;
 use crate::SyntaxKind::{BadNumeral, NotInProfile, Unclosed, Unexpected};
 use std::test::Fail;
 
+/// A program with forms of each kind but one.
+const FINDS_A_BLOCK: &str = "; find a block
+(strategy mea)
+(literalize goal type status object color)
+(literalize block name color)
+(make goal ^type find ^status active ^object block ^color red)
+(make block ^name b1 ^color blue)
+(make block ^name b2 ^color red)
+(p find-block
+   { <g> (goal ^status active ^type find ^object block ^color <z>) }
+   { (block ^color <z> ^name <n>) <b> }
+  -->
+   (modify <g> ^status satisfied)
+   (write found <n> (crlf)))
+";
+
 #[test]
 fn the_first_wrong_token_decides(rt: HostRuntime) -> Result<(), Fail> {
     let rows = [
@@ -141,6 +157,45 @@ fn each_front_of_a_rule_is_refused(rt: HostRuntime) -> Result<(), Fail> {
             18 => Some((16, Unexpected)),
             // `w`, `wr`, `wri`, `writ`
             22..=25 => Some((21, Unexpected)),
+            _ => Some((end as u64, Unclosed)),
+        };
+        let refusal = refusal_of(&rt, rt.alloc(), &text[..end])?;
+        assert_eq!(rt; refusal, expected, "{end} bytes");
+    }
+    Ok(())
+}
+
+#[test]
+fn each_front_of_a_program_is_read_or_refused(rt: HostRuntime) -> Result<(), Fail> {
+    let text = FINDS_A_BLOCK.as_bytes();
+    assert_eq!(rt; text.len(), 425);
+    for end in 0..=text.len() {
+        let expected = match end {
+            // the comment, and whole forms
+            0..=15 | 29 | 30 | 72 | 73 | 102 | 103 | 165 | 166 | 199 | 200 | 232 | 233 => None,
+            424 | 425 => None,
+            // `s` to `strateg`, and `m` and `me`
+            17..=23 => Some((16, Unexpected)),
+            26 | 27 => Some((25, Unexpected)),
+            // `l` to `literaliz`, among them `literal`, which is left out
+            38 => Some((31, NotInProfile)),
+            32..=40 => Some((31, Unexpected)),
+            81 => Some((74, NotInProfile)),
+            75..=83 => Some((74, Unexpected)),
+            // `m` to `mak`
+            105..=107 => Some((104, Unexpected)),
+            168..=170 => Some((167, Unexpected)),
+            202..=204 => Some((201, Unexpected)),
+            // `<` and `<g`, or `<b`, where an element variable stands
+            253 | 254 => Some((252, Unexpected)),
+            351 | 352 => Some((350, Unexpected)),
+            374 | 375 => Some((373, Unexpected)),
+            // `--`
+            360 => Some((358, Unexpected)),
+            // `m` to `modif`, `w` to `writ`, and `c` to `crl`
+            367..=371 => Some((366, Unexpected)),
+            401..=404 => Some((400, Unexpected)),
+            418..=420 => Some((417, Unexpected)),
             _ => Some((end as u64, Unclosed)),
         };
         let refusal = refusal_of(&rt, rt.alloc(), &text[..end])?;

@@ -3,6 +3,7 @@ use Rattle.std.proofs.Common.{ap, length, arith}
 use Rattle.ops_reader.specs.declared.part.Progress.{Progress}
 use Rattle.ops_reader.specs.Tokens.{tokens_of}
 use Rattle.ops_reader.specs.Outcome.{reading}
+use Rattle.ops_reader.proofs.TokenCounts.{a_byte_each}
 use Rattle.ops_reader.proofs.FormShapes.{text_has_shape}
 use Rattle.ops_reader.proofs.ReadLemmas.{whole_is_text}
 use Rattle.ops_reader.proofs.Reached.{ends_early}
@@ -15,7 +16,7 @@ new-requires c =
     let tokens = tokens_of c.args.bytes.now in
     let text = whole_is_text names after tokens c.in_ok-progress.progress c.in-Some.forms c.in_ok-progress.ensures.read c.in-Some.ensures.whole in
     let same = ap (λ (p : Progress). length p.forms) c.in-Some.ensures.whole in
-    text_has_shape c.in-Some.forms names tokens after text (omega (arith, same, c.in_ok-progress.ensures.few))
+    text_has_shape c.in-Some.forms names tokens after text (omega (arith, same, c.in_ok-progress.ensures.few)) (omega (arith, a_byte_each c.args.bytes.now))
 
 pub returns-in-Some-clause-found : goal.returns-in-Some-clause-found
 returns-in-Some-clause-found c =
