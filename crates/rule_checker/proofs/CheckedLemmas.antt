@@ -1,5 +1,5 @@
 -- A program that is checked is sound: one form at a time.
-use Rattle.std.proofs.Common.{◌≡◌, ℕ, ◌+◌, ◌≤◌, ◌<◌, Bool, true, false, List, [], ◌∷◌, ◌++◌, Some, Result, Ok, Err, length, map, nat_le, is_some, replicate, slice_get, slice_set, refl, sym, ap, ◌∙◌, subst, arith, length-append}
+use Rattle.std.proofs.Common.{◌≡◌, ℕ, ◌+◌, ◌≤◌, ◌<◌, List, [], ◌∷◌, ◌++◌, Some, Result, Ok, Err, length, nat_le, replicate, slice_get, slice_set, sym, ap, ◌∙◌, subst, arith, length-append}
 use Rattle.std.specs.List.{AllByRecursion}
 use Rattle.std.proofs.lemmas.List.{length-map, map-append, length-set, length-replicate}
 use Rattle.rule_base.specs.declared.value.Value.{Value}
@@ -8,31 +8,28 @@ use Rattle.rule_base.specs.declared.program.Rule.{Rule}
 use Rattle.rule_base.specs.declared.program.Program.{Program}
 use Rattle.rule_base.specs.Chains.{◌>>=◌}
 use Rattle.rule_base.specs.Value.{nil}
-use Rattle.rule_base.specs.Sound.{sizes_of, known_after_conds, positive_classes, begins_positive, SoundActions, IsSoundRule, IsSound}
+use Rattle.rule_base.specs.Sound.{sizes_of, known_after_conds, SoundActions, IsSoundRule, IsSound}
 use Rattle.ops_reader.specs.declared.form.FormCond.{FormCond}
 use Rattle.ops_reader.specs.declared.form.FormAction.{FormAction}
 use Rattle.ops_reader.specs.declared.form.Form.{Form}
 use Rattle.ops_reader.specs.declared.form.Form.TheVariants as form
-use Rattle.ops_reader.specs.Shape.{IsShallowAction, HasShape}
+use Rattle.ops_reader.specs.Shape.{IsAction, HasShape}
 use Rattle.rule_checker.specs.declared.refusal.CheckKind.{CheckKind}
-use Rattle.rule_checker.specs.declared.refusal.CheckKind.TheVariants.{Twice, TooMany}
-use Rattle.rule_checker.specs.declared.left_side.LeftSide.{LeftSide}
-use Rattle.rule_checker.specs.declared.right_side.RightSide.{RightSide}
-use Rattle.rule_checker.specs.Names.{number_in}
-use Rattle.rule_checker.specs.Walk.{refused_if, after_each}
-use Rattle.rule_checker.specs.Forms.{Violation, at_form, after_forms}
-use Rattle.rule_checker.specs.Classes.{class_names, not_yet_declared, few_classes, new_attribute, few_attributes, with_attribute, with_class, declared_class, attributes_at, has_attribute}
+use Rattle.rule_checker.specs.declared.refusal.CheckKind.TheVariants.{TooMany}
+use Rattle.rule_checker.specs.Walk.{after_each}
+use Rattle.rule_checker.specs.Forms.{at_form, after_forms}
+use Rattle.rule_checker.specs.Classes.{not_yet_declared, few_classes, new_attribute, few_attributes, with_attribute, with_class, declared_class, attributes_at, has_attribute}
 use Rattle.rule_checker.specs.Makes.{with_value, values_of, make_of}
-use Rattle.rule_checker.specs.LeftSide.{with_cond, no_conditions, left_side}
+use Rattle.rule_checker.specs.LeftSide.{left_side}
 use Rattle.rule_checker.specs.RightSide.{right_side}
-use Rattle.rule_checker.specs.Rules.{rule_names, new_rule_name, few_rules, rule_of, checked_rule, with_rule}
+use Rattle.rule_checker.specs.Rules.{new_rule_name, few_rules, rule_of, checked_rule, with_rule}
 use Rattle.rule_checker.specs.Checked.{with_make, with_form, no_program, checked}
 use Rattle.rule_checker.proofs.ListLemmas.{all_push, all_map, slice_get-front}
 use Rattle.rule_checker.proofs.ResultLemmas.{passed, kept, after_each-keeps}
-use Rattle.rule_checker.proofs.ScopeLemmas.{AreKnown, IsScope}
+use Rattle.rule_checker.proofs.ScopeLemmas.{AreKnown}
 use Rattle.rule_checker.proofs.ClassLemmas.{declared_class-size, positive_classes-within, IsSoundRule-more}
-use Rattle.rule_checker.proofs.LeftSideLemmas.{IsLeftSide, nat_le-false, left_side-sound, left_side-begins}
-use Rattle.rule_checker.proofs.RightSideLemmas.{IsRightSide, right_side-sound}
+use Rattle.rule_checker.proofs.LeftSideLemmas.{nat_le-false, left_side-sound, left_side-begins}
+use Rattle.rule_checker.proofs.RightSideLemmas.{right_side-sound}
 
 -- one class more
 declared-sound : (p : Program) (name : ℕ) (attrs : List ℕ) → IsSound p → length p.classes < 256 → length attrs ≤ 64 → IsSound (record p { classes = p.classes ++ record { name = name; attrs = attrs } ∷ [] })
@@ -97,7 +94,7 @@ with_make-sound p class sets next h e =
     })
 
 -- a rule that is checked
-checked_rule-sound : (classes : List Class) (name : ℕ) (conds : List FormCond) (actions : List FormAction) (rule : Rule) → 0 < length conds → AllByRecursion IsShallowAction actions → checked_rule classes name conds actions ≡ Ok rule → IsSoundRule (sizes_of classes) rule
+checked_rule-sound : (classes : List Class) (name : ℕ) (conds : List FormCond) (actions : List FormAction) (rule : Rule) → 0 < length conds → AllByRecursion IsAction actions → checked_rule classes name conds actions ≡ Ok rule → IsSoundRule (sizes_of classes) rule
 checked_rule-sound classes name conds actions rule some shallow e =
     let l = passed (left_side classes conds) (λ left. right_side classes left.scope left.elements actions >>= λ right. Ok (rule_of name left right)) rule e in
     let left = l.0 in
@@ -122,7 +119,7 @@ checked_rule-sound classes name conds actions rule some shallow e =
     })
 
 -- one rule more
-with_rule-sound : (p : Program) (name : ℕ) (conds : List FormCond) (actions : List FormAction) (rules : List Rule) → IsSound p → 0 < length conds → AllByRecursion IsShallowAction actions
+with_rule-sound : (p : Program) (name : ℕ) (conds : List FormCond) (actions : List FormAction) (rules : List Rule) → IsSound p → 0 < length conds → AllByRecursion IsAction actions
     → with_rule p.classes p.rules name conds actions ≡ Ok rules → IsSound (record p { rules = rules })
 with_rule-sound p name conds actions rules h some shallow e =
     let new = passed (new_rule_name p.rules name) (λ _. few_rules p.rules >>= λ _. checked_rule p.classes name conds actions >>= λ rule. Ok (p.rules ++ rule ∷ [])) rules e in
@@ -147,7 +144,7 @@ with_form-sound p (form.Literalize class attrs) next h shape e =
 with_form-sound p (form.P name conds actions) next h shape e =
     let w = passed (with_rule p.classes p.rules name conds actions) (λ rules. Ok (record p { rules = rules })) next e in
     let same : record p { rules = w.0 } ≡ next = let last = w.2 in cc in
-    subst IsSound same (with_rule-sound p name conds actions w.0 h shape.0 shape.1 w.1)
+    subst IsSound same (with_rule-sound p name conds actions w.0 h shape.0 shape.2 w.1)
 with_form-sound p (form.Make class sets) next h shape e = with_make-sound p class sets next h e
 with_form-sound p (form.Strategy mea) next h shape e = let same : p ≡ next = cc in subst IsSound same h
 with_form-sound p (form.Watch level) next h shape e = let same : p ≡ next = cc in subst IsSound same h

@@ -1,8 +1,11 @@
--- What a refusal of one form says of all forms.
-use Rattle.std.proofs.Common.{◌≡◌, ℕ, ◌+◌, ◌<◌, List, ◌∷◌, length, get_or, drop, Result, Ok, Err, refl, sym, ap, ◌∙◌}
-use Rattle.std.proofs.lemmas.List.{at_drop_more}
+-- What a refusal of one form says of all forms, and how many names one form has.
+use Rattle.std.proofs.Common.{◌≡◌, ℕ, ◌+◌, ◌≤◌, ◌<◌, List, ◌∷◌, length, get_or, drop, Result, Ok, Err, refl, sym, ap, ◌∙◌, arith}
+use Rattle.std.specs.List.{flat_map}
+use Rattle.std.proofs.lemmas.List.{at_drop_more, at_drop_all}
+use Rattle.std.proofs.lemmas.List.Folds.{length-flat_map-take}
 use Rattle.rule_base.specs.Chains.{◌>>=◌}
 use Rattle.ops_reader.specs.declared.form.Form.{Form}
+use Rattle.ops_reader.specs.Named.{numbers_in_form}
 use Rattle.rule_checker.specs.declared.refusal.CheckKind.{CheckKind}
 use Rattle.rule_checker.specs.declared.refusal.Refusal.{Refusal}
 use Rattle.rule_checker.specs.declared.refusal.Refusal.TheVariants.{Violated, OutOfMemory}
@@ -29,3 +32,13 @@ form_tells {S} step number s xs i x whole refusal tells is within same =
     ap (λ y. after_forms step number s (y ∷ drop (i + 1) xs)) is ∙ sym (at_drop_more (after_forms step number s) xs i x within) ∙ same in
     let told = form_refused (step s x) more number refusal tells in
     record { violated = λ form kind violates. sym ends ∙ told.violated form kind violates }
+
+-- a form has no more names than all forms have
+pub names-within : (forms : List Form) (i : ℕ) (f : Form) → f ≡ get_or forms i f → i < length forms → length (numbers_in_form f) ≤ length (flat_map numbers_in_form forms)
+names-within forms i f is within = omega (arith, ap (λ x. length (numbers_in_form x)) is, length-flat_map-take numbers_in_form forms i f within)
+
+-- where no form is left, the walk passes
+pub walk_passes : {S : Type 0} (step : S → Form → Result S CheckKind) (number : ℕ) (state : S) {slice forms : List Form} {i : ℕ} {whole : Result S Violation}
+    → slice ≡ forms → length slice ≤ i → after_forms step number state (drop i forms) ≡ whole → whole ≡ Ok state
+walk_passes step number state {slice} {forms} {i} same over left =
+    sym left ∙ ap (λ fs. after_forms step number state (drop i fs)) (sym same) ∙ at_drop_all (after_forms step number state) slice i over

@@ -1,5 +1,5 @@
 -- Of which kinds violations are: those of a program are never of a memory file's alone, and a memory file's are of three.
-use Rattle.std.proofs.Common.{◌≡◌, ℕ, ◌+◌, Bool, true, false, List, [], ◌∷◌, ◌++◌, Option, Some, None, Result, Ok, Err, length, map, slice_set, replicate, pos, negsuc, zero, suc, refl, sym, ap, ◌∙◌, subst}
+use Rattle.std.proofs.Common.{◌≡◌, ℕ, ◌+◌, Bool, true, false, List, [], ◌∷◌, ◌++◌, Option, Some, None, Result, Ok, Err, length, map, slice_set, pos, negsuc, zero, suc, refl, sym, ap, ◌∙◌, subst}
 use Rattle.std.specs.List.{AllByRecursion}
 use Rattle.rule_base.specs.declared.value.Value.{Value}
 use Rattle.rule_base.specs.declared.expression.Op.{Op}
@@ -8,18 +8,14 @@ use Rattle.rule_base.specs.declared.expression.Expr.{Expr, roll-Expr}
 use Rattle.rule_base.specs.declared.expression.Operand.TheOpen as made
 use Rattle.rule_base.specs.declared.condition.Arg.TheVariants as arg
 use Rattle.rule_base.specs.declared.condition.Test.TheVariants as test
-use Rattle.rule_base.specs.declared.condition.Pred.{Pred}
 use Rattle.rule_base.specs.declared.element.Element.{Element}
-use Rattle.rule_base.specs.declared.action.Term.{Term}
 use Rattle.rule_base.specs.declared.action.Term.TheVariants as term
-use Rattle.rule_base.specs.declared.action.Item.{Item}
 use Rattle.rule_base.specs.declared.action.Item.TheVariants as item
 use Rattle.rule_base.specs.declared.action.Action.TheVariants as action
 use Rattle.rule_base.specs.declared.program.Class.{Class}
 use Rattle.rule_base.specs.declared.program.Rule.{Rule}
 use Rattle.rule_base.specs.declared.program.Program.{Program}
 use Rattle.rule_base.specs.Chains.{◌>>=◌}
-use Rattle.rule_base.specs.Value.{nil}
 use Rattle.ops_reader.specs.declared.form.FormArg.TheVariants as written
 use Rattle.ops_reader.specs.declared.form.Simple.{Simple}
 use Rattle.ops_reader.specs.declared.form.Simple.TheVariants as simple
@@ -42,7 +38,7 @@ use Rattle.ops_reader.specs.declared.form.Form.TheVariants as form
 use Rattle.rule_checker.specs.declared.refusal.CheckKind.{CheckKind}
 use Rattle.rule_checker.specs.declared.refusal.CheckKind.TheVariants.{UnknownClass, UnknownAttribute, Twice, FirstNegated, Unbound, BadDesignator, TooMany, NotInitial}
 use Rattle.rule_checker.specs.declared.scope.Scope.{Scope}
-use Rattle.rule_checker.specs.declared.tests_so_far.TestsSoFar.{TestsSoFar}
+use Rattle.rule_checker.specs.declared.condition_tests.TestsSoFar.{TestsSoFar}
 use Rattle.rule_checker.specs.declared.left_side.Elements.{Elements}
 use Rattle.rule_checker.specs.declared.left_side.LeftSide.{LeftSide}
 use Rattle.rule_checker.specs.declared.right_side.RightSide.{RightSide}
@@ -51,13 +47,13 @@ use Rattle.rule_checker.specs.Forms.{Violation, at_form, after_forms}
 use Rattle.rule_checker.specs.Classes.{not_yet_declared, few_classes, new_attribute, few_attributes, with_attribute, with_class, declared_class, attributes_at, has_attribute}
 use Rattle.rule_checker.specs.Makes.{with_value, values_of, make_of}
 use Rattle.rule_checker.specs.Scope.{variable_of, bound_to_its_left, behind}
-use Rattle.rule_checker.specs.Tests.{with_test, with_use, with_comparison, with_simple, with_tests, tests_of}
-use Rattle.rule_checker.specs.LeftSide.{few_conditions, first_is_positive, new_element_variable, with_element, elements_after, with_pattern, with_cond, no_conditions, left_side}
+use Rattle.rule_checker.specs.ConditionTests.{with_test, with_simple, with_tests, tests_of}
+use Rattle.rule_checker.specs.LeftSide.{few_conditions, first_is_positive, new_element_variable, elements_after, with_pattern, with_cond, no_conditions, left_side}
 use Rattle.rule_checker.specs.Expressions.{MadeOperand, MadeExpression, with_inner, with_operand, joined, operand_of, expression_of}
 use Rattle.rule_checker.specs.Terms.{term_of, item_of, with_item}
-use Rattle.rule_checker.specs.RightSide.{few_actions, known_designator, setting_of, with_setting, with_designator, make_action, attributes_of, modify_action, set_variable, with_plain_action, with_bind, bind_action, after_action, with_action, right_side}
+use Rattle.rule_checker.specs.RightSide.{few_actions, known_designator, setting_of, with_setting, with_designator, make_action, attributes_of, modify_action, set_variable, with_plain_action, with_bind, after_action, with_action, right_side}
 use Rattle.rule_checker.specs.Rules.{new_rule_name, few_rules, rule_of, checked_rule, with_rule}
-use Rattle.rule_checker.specs.Checked.{with_make, with_form, no_program, checked}
+use Rattle.rule_checker.specs.Checked.{with_form, no_program, checked}
 use Rattle.rule_checker.specs.Opening.{is_make, with_made, with_initial, opening_list}
 use Rattle.rule_checker.specs.Laws.{is_of_a_program, is_of_a_memory_file}
 use Rattle.rule_checker.proofs.ExpressionLemmas.{made_each, mapped}

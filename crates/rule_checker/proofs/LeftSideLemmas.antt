@@ -1,5 +1,5 @@
 -- The condition elements of a rule that is checked are sound: one at a time.
-use Rattle.std.proofs.Common.{◌≡◌, ℕ, ◌+◌, ◌≤◌, ◌<◌, Bool, true, false, not, ◌&&◌, cond, List, [], ◌∷◌, ◌++◌, Option, None, Some, Result, Ok, length, map, filter, nat_eq, nat_le, is_some, slice_get, slice_index, refl, sym, ap, ◌∙◌, subst, arith, length-append, append_assoc, append-nil}
+use Rattle.std.proofs.Common.{◌≡◌, ℕ, ◌≤◌, ◌<◌, Bool, true, false, not, ◌&&◌, cond, List, [], ◌∷◌, ◌++◌, Option, None, Some, Ok, length, map, filter, nat_eq, nat_le, slice_get, slice_index, refl, sym, ap, ◌∙◌, subst, arith, length-append, append-nil}
 use Rattle.std.specs.List.{AllByRecursion, IsDistinct, flat_map}
 use Rattle.std.proofs.lemmas.Grind.{flat_map-append}
 use Rattle.std.proofs.lemmas.Bool.Decides.{nat_tests}
@@ -10,20 +10,19 @@ use Rattle.rule_base.specs.declared.program.Class.{Class}
 use Rattle.rule_base.specs.Chains.{◌>>=◌}
 use Rattle.rule_base.specs.Sound.{sizes_of, SoundTests, SoundConds, known_after_cond, known_after_conds, bound_by_test, bound_variables, begins_positive, positive_classes}
 use Rattle.ops_reader.specs.declared.form.FormCond.{FormCond}
-use Rattle.rule_checker.specs.declared.refusal.CheckKind.TheVariants.{UnknownClass, Twice, FirstNegated, TooMany}
+use Rattle.rule_checker.specs.declared.refusal.CheckKind.TheVariants.{FirstNegated, TooMany}
 use Rattle.rule_checker.specs.declared.scope.Scope.{Scope}
-use Rattle.rule_checker.specs.declared.tests_so_far.TestsSoFar.{TestsSoFar}
+use Rattle.rule_checker.specs.declared.condition_tests.TestsSoFar.{TestsSoFar}
 use Rattle.rule_checker.specs.declared.left_side.Elements.{Elements}
 use Rattle.rule_checker.specs.declared.left_side.LeftSide.{LeftSide}
-use Rattle.rule_checker.specs.Names.{number_in, number_of}
 use Rattle.rule_checker.specs.Walk.{after_each}
-use Rattle.rule_checker.specs.Classes.{class_names, declared_class, attributes_at}
+use Rattle.rule_checker.specs.Classes.{declared_class, attributes_at}
 use Rattle.rule_checker.specs.Scope.{behind}
-use Rattle.rule_checker.specs.Tests.{with_tests, tests_of}
+use Rattle.rule_checker.specs.ConditionTests.{with_tests, tests_of}
 use Rattle.rule_checker.specs.LeftSide.{few_conditions, first_is_positive, new_element_variable, with_element, elements_after, with_pattern, with_cond, no_conditions, left_side}
 use Rattle.rule_checker.proofs.ListLemmas.{all_push, all_map}
-use Rattle.rule_checker.proofs.ResultLemmas.{passed, kept, found, after_each-keeps}
-use Rattle.rule_checker.proofs.ScopeLemmas.{AreKnown, IsScope, AreKnown-more}
+use Rattle.rule_checker.proofs.ResultLemmas.{passed, kept, after_each-keeps}
+use Rattle.rule_checker.proofs.ScopeLemmas.{AreKnown, AreKnown-more}
 use Rattle.rule_checker.proofs.TestLemmas.{AreTests, with_tests-keeps}
 use Rattle.rule_checker.proofs.ClassLemmas.{declared_class-size}
 

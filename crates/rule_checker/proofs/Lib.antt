@@ -13,4 +13,8 @@ pub mod LeftSideLemmas
 pub mod TermLemmas
 pub mod RightSideLemmas
 pub mod CheckedLemmas
+pub mod MakeLemmas
+pub mod DeclaredLemmas
+pub mod ViolationLemmas
+pub mod OpeningLemmas
 pub mod KindLemmas

@@ -5,6 +5,9 @@ use Rattle.rule_base.specs.Chains.{◌>>=◌}
 use Rattle.rule_checker.specs.declared.refusal.CheckKind.{CheckKind}
 use Rattle.rule_checker.specs.Walk.{refused_if, found_or, after_each}
 
+pub same_ok : {A E : Type 0} {a b : A} → ◌≡◌ {A = Result A E} (Ok a) (Ok b) → a ≡ b
+same_ok e = cc
+
 -- a chain that passes went through something
 pub passed : {A B E : Type 0} (first : Result A E) (more : A → Result B E) (b : B) → (first >>= more) ≡ Ok b → (a : A) × (first ≡ Ok a) × (more a ≡ Ok b)
 passed (Err e) more b h = absurd (cc)

@@ -1,10 +1,8 @@
 -- The actions of a rule that is checked are sound: one at a time.
-use Rattle.std.proofs.Common.{◌≡◌, ℕ, ◌+◌, ◌≤◌, ◌<◌, Bool, true, false, List, [], ◌∷◌, ◌++◌, Option, None, Some, Result, Ok, length, fold, nat_le, slice_get, slice_index, get_or, pos, negsuc, zero, suc, refl, sym, ap, ◌∙◌, subst, arith, length-append}
+use Rattle.std.proofs.Common.{◌≡◌, ℕ, ◌≤◌, ◌<◌, false, List, [], ◌∷◌, ◌++◌, Option, None, Some, Ok, length, fold, nat_le, slice_index, get_or, pos, negsuc, zero, suc, refl, sym, ap, ◌∙◌, subst, arith, length-append}
 use Rattle.std.specs.Option.{option_map_or}
 use Rattle.std.specs.List.{AllByRecursion}
-use Rattle.std.specs.Map.{lookup}
 use Rattle.std.proofs.lemmas.Grind.{fold-append}
-use Rattle.std.proofs.lemmas.Bool.Decides.{nat_tests}
 use Rattle.std.proofs.lemmas.Option.{slice_get-get_or, get_or_from_slice_get}
 use Rattle.rule_base.specs.declared.action.Term.{Term}
 use Rattle.rule_base.specs.declared.action.Item.{Item}
@@ -19,8 +17,8 @@ use Rattle.ops_reader.specs.declared.form.FormTerm.{FormTerm}
 use Rattle.ops_reader.specs.declared.form.FormItem.{FormItem}
 use Rattle.ops_reader.specs.declared.form.FormAction.{FormAction}
 use Rattle.ops_reader.specs.declared.form.FormAction.TheVariants as form_action
-use Rattle.ops_reader.specs.Shape.{IsShallow, IsShallowSet, IsShallowItem, IsShallowAction}
-use Rattle.rule_checker.specs.declared.refusal.CheckKind.TheVariants.{UnknownClass, UnknownAttribute, BadDesignator, TooMany}
+use Rattle.ops_reader.specs.Shape.{IsShallowSet, IsShallowItem, IsAction}
+use Rattle.rule_checker.specs.declared.refusal.CheckKind.TheVariants.{UnknownAttribute, BadDesignator, TooMany}
 use Rattle.rule_checker.specs.declared.scope.Scope.{Scope}
 use Rattle.rule_checker.specs.declared.left_side.Elements.{Elements}
 use Rattle.rule_checker.specs.declared.right_side.RightSide.{RightSide}
@@ -29,11 +27,11 @@ use Rattle.rule_checker.specs.Walk.{refused_if, after_each}
 use Rattle.rule_checker.specs.Classes.{declared_class, attributes_at, has_attribute}
 use Rattle.rule_checker.specs.Scope.{variable_of, with_variable}
 use Rattle.rule_checker.specs.Terms.{term_of, item_of, with_item}
-use Rattle.rule_checker.specs.RightSide.{few_actions, known_designator, setting_of, with_setting, with_designator, make_action, attributes_of, modify_action, set_variable, with_plain_action, with_bind, bind_action, after_action, with_action, right_side}
-use Rattle.rule_checker.proofs.ListLemmas.{all_push, all_get, all_index}
+use Rattle.rule_checker.specs.RightSide.{few_actions, known_designator, setting_of, with_setting, with_designator, make_action, attributes_of, modify_action, set_variable, with_plain_action, with_bind, after_action, with_action, right_side}
+use Rattle.rule_checker.proofs.ListLemmas.{all_push, all_get}
 use Rattle.rule_checker.proofs.NumberLemmas.{number_in-within}
 use Rattle.rule_checker.proofs.ResultLemmas.{passed, kept, found, after_each-keeps, after_each-keeps_of}
-use Rattle.rule_checker.proofs.ScopeLemmas.{AreKnown, IsScope, AreKnown-next, variable_of-known, with_variable-known}
+use Rattle.rule_checker.proofs.ScopeLemmas.{IsScope, AreKnown-next, variable_of-known, with_variable-known}
 use Rattle.rule_checker.proofs.ClassLemmas.{sizes_of-at, declared_class-size}
 use Rattle.rule_checker.proofs.LeftSideLemmas.{nat_le-false}
 use Rattle.rule_checker.proofs.TermLemmas.{term_of-sound, item_of-sound}
@@ -153,7 +151,7 @@ pub record IsGround (classes : List Class) (elements : Elements) : Type 0 where
   pub count : length (sizes_of classes) ≡ length classes
   pub places : AllByRecursion (λ (e : ℕ × ℕ). e.1 < length elements.classes) elements.names
 
-after_action-keeps : (classes : List Class) (elements : Elements) (known : List ℕ) (least : ℕ) → IsGround classes elements → (right : RightSide) (w : FormAction) (next : RightSide) → IsShallowAction w → length right.actions < 64
+after_action-keeps : (classes : List Class) (elements : Elements) (known : List ℕ) (least : ℕ) → IsGround classes elements → (right : RightSide) (w : FormAction) (next : RightSide) → IsAction w → length right.actions < 64
     → IsRightSide (sizes_of classes) elements.classes known least right → after_action classes elements right w ≡ Ok next → IsRightSide (sizes_of classes) elements.classes known least next
 after_action-keeps classes elements known least ground right (form_action.Make name sets) next shallow room h e =
     let ns = fold known_after_action known right.actions in
@@ -200,15 +198,15 @@ after_action-keeps classes elements known least ground right form_action.Halt ne
     let same : with_plain_action right action.Halt ≡ next = cc in
     subst (IsRightSide (sizes_of classes) elements.classes known least) same (plain-keeps (sizes_of classes) elements.classes known least right action.Halt h room (λ ns. refl) (λ vars more. tt))
 
-with_action-keeps : (classes : List Class) (elements : Elements) (known : List ℕ) (least : ℕ) → IsGround classes elements → (right : RightSide) (w : FormAction) (next : RightSide) → IsShallowAction w
+with_action-keeps : (classes : List Class) (elements : Elements) (known : List ℕ) (least : ℕ) → IsGround classes elements → (right : RightSide) (w : FormAction) (next : RightSide) → IsAction w
     → IsRightSide (sizes_of classes) elements.classes known least right → with_action classes elements right w ≡ Ok next → IsRightSide (sizes_of classes) elements.classes known least next
 with_action-keeps classes elements known least ground right w next shallow h e =
     let few = passed (few_actions right) (λ _. after_action classes elements right w) next e in
     after_action-keeps classes elements known least ground right w next shallow (nat_le-false 64 (length right.actions) (kept (nat_le 64 (length right.actions)) TooMany few.0 few.1)) h few.2
 
 -- a right-hand side that is checked
-pub right_side-sound : (classes : List Class) (scope : Scope) (elements : Elements) (known : List ℕ) → IsGround classes elements → IsScope known scope → (written : List FormAction) (right : RightSide) → AllByRecursion IsShallowAction written
+pub right_side-sound : (classes : List Class) (scope : Scope) (elements : Elements) (known : List ℕ) → IsGround classes elements → IsScope known scope → (written : List FormAction) (right : RightSide) → AllByRecursion IsAction written
     → right_side classes scope elements written ≡ Ok right → IsRightSide (sizes_of classes) elements.classes known scope.vars right
 right_side-sound classes scope elements known ground is_scope written right shallow e =
-    after_each-keeps_of (IsRightSide (sizes_of classes) elements.classes known scope.vars) IsShallowAction (with_action classes elements) (with_action-keeps classes elements known scope.vars ground) (record { actions = []; scope = scope }) written right shallow
+    after_each-keeps_of (IsRightSide (sizes_of classes) elements.classes known scope.vars) IsAction (with_action classes elements) (with_action-keeps classes elements known scope.vars ground) (record { actions = []; scope = scope }) written right shallow
     (record { grown = omega arith; few = omega arith; scope = is_scope; sound = λ vars more. tt }) e

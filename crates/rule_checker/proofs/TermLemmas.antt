@@ -1,5 +1,5 @@
 -- The values of actions that are checked are sound, and their expressions as deep as they are written.
-use Rattle.std.proofs.Common.{◌≡◌, ℕ, ◌+◌, ◌≤◌, max, List, [], ◌∷◌, ◌++◌, Result, Ok, map, refl, sym, ap, ◌∙◌, subst, arith, append_assoc, append-nil}
+use Rattle.std.proofs.Common.{◌≡◌, ℕ, ◌+◌, ◌≤◌, max, List, [], ◌∷◌, ◌++◌, Ok, map, refl, sym, ap, ◌∙◌, subst, arith, append_assoc, append-nil}
 use Rattle.std.specs.List.{AllByRecursion}
 use Rattle.rule_base.specs.declared.expression.Op.{Op}
 use Rattle.rule_base.specs.declared.expression.Operand.{Operand, roll-Operand}
@@ -12,10 +12,10 @@ use Rattle.rule_base.specs.declared.action.Term.TheVariants as term
 use Rattle.rule_base.specs.declared.action.Item.{Item}
 use Rattle.rule_base.specs.declared.action.Item.TheVariants as item
 use Rattle.rule_base.specs.Chains.{◌>>=◌}
-use Rattle.rule_base.specs.Expression.{Tree, single, joined as tree_joined, Leaf, number, variable, parentheses, chained, leaf_of, tree_of, depth, leaf_depth}
-use Rattle.rule_base.specs.Sound.{SoundTree, SoundLeaf, SoundTerm, SoundItem, IsKnown}
+use Rattle.rule_base.specs.Expression.{Tree, Leaf, number, variable, parentheses, chained, leaf_of, tree_of, depth, leaf_depth}
+use Rattle.rule_base.specs.Sound.{SoundTree, SoundLeaf, SoundTerm, SoundItem}
 use Rattle.ops_reader.specs.declared.form.FormOperand.{FormOperand, roll-FormOperand, map-FormOperand}
-use Rattle.ops_reader.specs.declared.form.FormExpr.{FormExpr, roll-FormExpr, map-FormExpr}
+use Rattle.ops_reader.specs.declared.form.FormExpr.{FormExpr, roll-FormExpr}
 use Rattle.ops_reader.specs.declared.form.FormOperand.TheOpen as written
 use Rattle.ops_reader.specs.declared.form.FormOperand.TheShapes.{former-FormExpr-rest-at-2}
 use Rattle.ops_reader.specs.declared.form.FormOperand.TheFolds.{fold-FormOperand, fold-roll-FormOperand, fold-roll-FormExpr, ind-FormExpr}
@@ -25,7 +25,6 @@ use Rattle.ops_reader.specs.declared.form.FormItem.{FormItem}
 use Rattle.ops_reader.specs.declared.form.FormItem.TheVariants as form_item
 use Rattle.ops_reader.specs.FormTree.{form_leaf, form_tree}
 use Rattle.ops_reader.specs.Shape.{IsShallow, IsShallowItem}
-use Rattle.rule_checker.specs.declared.refusal.CheckKind.{CheckKind}
 use Rattle.rule_checker.specs.declared.refusal.CheckKind.TheVariants.{Unbound}
 use Rattle.rule_checker.specs.declared.scope.Scope.{Scope}
 use Rattle.rule_checker.specs.Walk.{after_each}

@@ -1,5 +1,5 @@
 -- The tests of a condition element that is checked are sound: one test at a time.
-use Rattle.std.proofs.Common.{◌≡◌, ℕ, ◌+◌, ◌≤◌, ◌<◌, Bool, true, false, List, [], ◌∷◌, ◌++◌, Option, None, Some, Result, Ok, length, fold, nat_eq, refl, sym, ap, ◌∙◌, subst, arith, append_assoc, append-nil}
+use Rattle.std.proofs.Common.{◌≡◌, ℕ, ◌+◌, ◌≤◌, ◌<◌, Bool, true, false, List, [], ◌∷◌, ◌++◌, Option, None, Some, Ok, length, fold, nat_eq, refl, sym, ap, ◌∙◌, subst, arith, append_assoc, append-nil}
 use Rattle.std.specs.List.{AllByRecursion, IsDistinct, flat_map}
 use Rattle.std.specs.Cmp.{nat_eq_equiv}
 use Rattle.std.proofs.lemmas.Grind.{flat_map-append, fold-append}
@@ -8,19 +8,18 @@ use Rattle.rule_base.specs.declared.condition.Pred.TheVariants.{Eq}
 use Rattle.rule_base.specs.declared.condition.Arg.TheVariants as arg
 use Rattle.rule_base.specs.declared.condition.Test.{Test}
 use Rattle.rule_base.specs.declared.condition.Test.TheVariants as test
-use Rattle.rule_base.specs.Chains.{◌>>=◌}
 use Rattle.rule_base.specs.Sound.{SoundTest, SoundTests, known_after_test, bound_by_test}
 use Rattle.ops_reader.specs.declared.form.FormArg.TheVariants as written
 use Rattle.ops_reader.specs.declared.form.Simple.{Simple}
 use Rattle.ops_reader.specs.declared.form.Simple.TheVariants as simple
 use Rattle.rule_checker.specs.declared.refusal.CheckKind.TheVariants.{UnknownAttribute, Unbound}
 use Rattle.rule_checker.specs.declared.scope.Scope.{Scope}
-use Rattle.rule_checker.specs.declared.tests_so_far.TestsSoFar.{TestsSoFar}
+use Rattle.rule_checker.specs.declared.condition_tests.TestsSoFar.{TestsSoFar}
 use Rattle.rule_checker.specs.Names.{number_in}
 use Rattle.rule_checker.specs.Walk.{after_each}
 use Rattle.rule_checker.specs.Classes.{has_attribute}
 use Rattle.rule_checker.specs.Scope.{variable_of, bound_to_its_left, with_variable}
-use Rattle.rule_checker.specs.Tests.{with_test, with_use, with_comparison, with_simple, with_tests}
+use Rattle.rule_checker.specs.ConditionTests.{with_test, with_use, with_simple, with_tests}
 use Rattle.rule_checker.proofs.ListLemmas.{all_push, all_map, none_equal}
 use Rattle.rule_checker.proofs.NumberLemmas.{number_in-within}
 use Rattle.rule_checker.proofs.ResultLemmas.{passed, found, after_each-keeps}

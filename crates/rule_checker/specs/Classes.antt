@@ -1,5 +1,5 @@
 -- The rules of `literalize`, and how later forms find a class and its attributes.
-use Rattle.std.specs.Prelude.{ℕ, List, [], ◌∷◌, ◌++◌, Option, is_some, length, map, nat_le, slice_get, Result, Ok}
+use Rattle.std.specs.Prelude.{ℕ, List, [], ◌∷◌, ◌++◌, is_some, length, map, nat_le, slice_get, Result, Ok}
 use Rattle.std.specs.Option.{option_map_or}
 use Rattle.rule_base.specs.declared.program.Class.{Class}
 use Rattle.rule_base.specs.Chains.{◌>>=◌}

@@ -1,5 +1,5 @@
 -- The rules of the expressions of `compute`: each variable is bound.
-use Rattle.std.specs.Prelude.{ℕ, List, [], ◌∷◌, ◌++◌, Result, Ok}
+use Rattle.std.specs.Prelude.{List, [], ◌∷◌, ◌++◌, Result, Ok}
 use Rattle.rule_base.specs.declared.expression.Op.{Op}
 use Rattle.rule_base.specs.declared.expression.Operand.{Operand, roll-Operand}
 use Rattle.rule_base.specs.declared.expression.Expr.{Expr, roll-Expr}
@@ -32,7 +32,8 @@ with_operand scope done next = next.1 scope >>= λ operand. Ok (done ++ (next.0,
 
 -- an expression of operands that are made already, from left to right
 abbrev pub joined : written.FormExpr-F MadeOperand MadeExpression → MadeExpression
-joined e scope = e.first scope >>= λ first. after_each (with_operand scope) [] e.rest >>= λ rest. Ok (roll-Expr (record { first = first; rest = rest }))
+joined e scope =
+    e.first scope >>= λ first. after_each (with_operand scope) [] e.rest >>= λ rest. Ok (roll-Expr (record { first = first; rest = rest }))
 
 -- the expression of a compute
 abbrev pub expression_of : FormExpr → MadeExpression

@@ -5,13 +5,13 @@ use Rattle.rule_base.specs.Chains.{◌>>=◌}
 use Rattle.ops_reader.specs.declared.form.FormCond.{FormCond}
 use Rattle.rule_checker.specs.declared.refusal.CheckKind.{CheckKind}
 use Rattle.rule_checker.specs.declared.refusal.CheckKind.TheVariants.{Twice, FirstNegated, TooMany}
-use Rattle.rule_checker.specs.declared.tests_so_far.TestsSoFar.{TestsSoFar}
+use Rattle.rule_checker.specs.declared.condition_tests.TestsSoFar.{TestsSoFar}
 use Rattle.rule_checker.specs.declared.left_side.Elements.{Elements}
 use Rattle.rule_checker.specs.declared.left_side.LeftSide.{LeftSide}
 use Rattle.rule_checker.specs.Names.{number_of}
 use Rattle.rule_checker.specs.Classes.{declared_class, attributes_at}
 use Rattle.rule_checker.specs.Scope.{no_variables, behind}
-use Rattle.rule_checker.specs.Tests.{tests_of}
+use Rattle.rule_checker.specs.ConditionTests.{tests_of}
 use Rattle.rule_checker.specs.Walk.{refused_if, after_each}
 
 -- it is at most the 32nd condition element
@@ -29,7 +29,9 @@ new_element_variable elements name = refused_if (is_some (number_of elements.nam
 -- the elements with that of one positive condition element more, which may have a name
 abbrev pub with_element : Elements → ℕ → Option ℕ → Result Elements CheckKind
 with_element elements class None = Ok (record elements { classes = elements.classes ++ class ∷ [] })
-with_element elements class (Some name) = new_element_variable elements name >>= λ _. Ok (record { classes = elements.classes ++ class ∷ []; names = elements.names ++ (name, length elements.classes) ∷ [] })
+with_element elements class (Some name) =
+    new_element_variable elements name >>= λ _.
+    Ok (record { classes = elements.classes ++ class ∷ []; names = elements.names ++ (name, length elements.classes) ∷ [] })
 
 -- the same of any condition element: no element matches a negated one, so that it has none to name
 abbrev pub elements_after : Elements → Bool → ℕ → Option ℕ → Result Elements CheckKind

@@ -1,6 +1,7 @@
 -- the program of forms, and the opening memory
 pub mod Checked
 pub mod Opening
+pub mod Declares
 pub mod Laws
 pub mod Forms
 pub mod Outcome
@@ -10,7 +11,7 @@ pub mod Names
 pub mod Classes
 pub mod Makes
 pub mod Scope
-pub mod Tests
+pub mod ConditionTests
 pub mod LeftSide
 pub mod Expressions
 pub mod Terms

@@ -2,7 +2,6 @@
 use Rattle.std.specs.Prelude.{ℕ, List, [], ◌∷◌, ◌++◌, false, Option, Some, None, length, nat_le, slice_get, pos, negsuc, zero, suc, Result, Ok, Err}
 use Rattle.std.specs.Option.{option_map_or}
 use Rattle.rule_base.specs.declared.action.Term.{Term}
-use Rattle.rule_base.specs.declared.action.Item.{Item}
 use Rattle.rule_base.specs.declared.action.Action.{Action}
 use Rattle.rule_base.specs.declared.action.Action.TheVariants as action
 use Rattle.rule_base.specs.declared.program.Class.{Class}
@@ -77,15 +76,19 @@ with_bind right value set = record { actions = right.actions ++ action.Bind set.
 
 -- a bind more: its value is checked before its variable is bound
 abbrev pub bind_action : RightSide → ℕ → FormTerm → Result RightSide CheckKind
-bind_action right name value = term_of right.scope value >>= λ t. Ok (with_bind right t (set_variable right.scope name (variable_of right.scope name)))
+bind_action right name value =
+    term_of right.scope value >>= λ t. Ok (with_bind right t (set_variable right.scope name (variable_of right.scope name)))
 
 -- the rules of one action, and the actions with it
 abbrev pub after_action : List Class → Elements → RightSide → FormAction → Result RightSide CheckKind
 after_action classes elements right (form_action.Make class sets) = make_action classes right.scope class sets >>= λ a. Ok (with_plain_action right a)
-after_action classes elements right (form_action.Modify written sets) = modify_action classes elements right.scope written sets >>= λ a. Ok (with_plain_action right a)
-after_action classes elements right (form_action.Remove places) = after_each (with_designator elements) [] places >>= λ done. Ok (with_plain_action right (action.Remove done))
+after_action classes elements right (form_action.Modify written sets) =
+    modify_action classes elements right.scope written sets >>= λ a. Ok (with_plain_action right a)
+after_action classes elements right (form_action.Remove places) =
+    after_each (with_designator elements) [] places >>= λ done. Ok (with_plain_action right (action.Remove done))
 after_action classes elements right (form_action.Bind name value) = bind_action right name value
-after_action classes elements right (form_action.Write items) = after_each (with_item right.scope) [] items >>= λ done. Ok (with_plain_action right (action.Write done))
+after_action classes elements right (form_action.Write items) =
+    after_each (with_item right.scope) [] items >>= λ done. Ok (with_plain_action right (action.Write done))
 after_action classes elements right form_action.Halt = Ok (with_plain_action right action.Halt)
 
 -- one action more

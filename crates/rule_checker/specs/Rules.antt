@@ -28,11 +28,13 @@ few_rules rules = refused_if (nat_le 4096 (length rules)) TooMany
 
 -- a rule of these sides
 abbrev pub rule_of : ℕ → LeftSide → RightSide → Rule
-rule_of name left right = record { name = name; vars = right.scope.vars; positives = length left.elements.classes; conds = left.conds; actions = right.actions }
+rule_of name left right =
+    record { name = name; vars = right.scope.vars; positives = length left.elements.classes; conds = left.conds; actions = right.actions }
 
 -- the rule over these classes
 abbrev pub checked_rule : List Class → ℕ → List FormCond → List FormAction → Result Rule CheckKind
-checked_rule classes name conds actions = left_side classes conds >>= λ left. right_side classes left.scope left.elements actions >>= λ right. Ok (rule_of name left right)
+checked_rule classes name conds actions =
+    left_side classes conds >>= λ left. right_side classes left.scope left.elements actions >>= λ right. Ok (rule_of name left right)
 
 -- the rules with one more, whose name and number are asked for first
 abbrev pub with_rule : List Class → List Rule → ℕ → List FormCond → List FormAction → Result (List Rule) CheckKind

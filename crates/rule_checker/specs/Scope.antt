@@ -1,6 +1,6 @@
 -- The variables of a rule, as its text is walked: which names have a number here, and what a new one gets. What a
 -- negated condition element binds is known in it alone.
-use Rattle.std.specs.Prelude.{ℕ, ◌+◌, List, [], ◌∷◌, ◌++◌, Bool, true, false, Option, Some, None, Result}
+use Rattle.std.specs.Prelude.{ℕ, ◌+◌, [], ◌∷◌, ◌++◌, Bool, true, false, Option, Result}
 use Rattle.std.specs.Option.{option_or}
 use Rattle.rule_checker.specs.declared.refusal.CheckKind.{CheckKind}
 use Rattle.rule_checker.specs.declared.refusal.CheckKind.TheVariants.{Unbound}

@@ -1,5 +1,5 @@
 -- The rules of the values in actions: each variable is bound.
-use Rattle.std.specs.Prelude.{ℕ, List, [], ◌∷◌, ◌++◌, Result, Ok}
+use Rattle.std.specs.Prelude.{List, [], ◌∷◌, ◌++◌, Result, Ok}
 use Rattle.rule_base.specs.declared.action.Term.{Term}
 use Rattle.rule_base.specs.declared.action.Term.TheVariants as term
 use Rattle.rule_base.specs.declared.action.Item.{Item}

@@ -1,10 +1,13 @@
 //! The checked program of forms.
 
-ghost use Rattle.std.specs.Prelude.{◌≡◌, ◌≤◌, Ok, IfOk, OnOk, IfErr};
+ghost use Rattle.std.specs.Prelude.{◌≡◌, ◌≤◌, Ok, length, IfOk, OnOk, IfErr};
 ghost use Rattle.rule_base.specs.declared.program.Program.{Program};
 ghost use Rattle.rule_base.specs.Sound.{IsSound};
 ghost use Rattle.ops_reader.specs.declared.form.Form.TheVariants as form;
+ghost use Rattle.ops_reader.specs.Named.{numbers_in_form};
 ghost use Rattle.rule_checker.specs.Outcome.{Tells, TellsForm};
+ghost use Rattle.rule_checker.specs.Scope.{no_variables};
+ghost use Rattle.rule_checker.specs.Kept.{HasRoom};
 ghost use Rattle.rule_checker.specs.Checked.{with_make, with_form, no_program, checked};
 
 use crate::classes::Classes;
@@ -78,6 +81,7 @@ impl Declarations {
         conds: &[FormCond],
         actions: &[FormAction],
     ) -> Result<Declarations, Refusal>
+        requires room { HasRoom no_variables (numbers_in_form (form.P name conds.now actions.now)) }
         ensures ok { IfOk result
             (λ next. with_form self (form.P name conds.now actions.now) ≡ Ok next) }
         ensures refused { IfErr result
@@ -90,6 +94,7 @@ impl Declarations {
     }
 
     fn with_form(self, alloc: Global, form: &Form) -> Result<Declarations, Refusal>
+        requires room { HasRoom no_variables (numbers_in_form form.now) }
         ensures ok { IfOk result (λ next. with_form self form.now ≡ Ok next) }
         ensures refused { IfErr result (Tells (with_form self form.now)) }
     {
@@ -117,10 +122,12 @@ impl Declarations {
     }
 }
 
-/// The program of these forms, or the first violated rule: the number of its form, from 1, and its kind.
+/// The program of these forms, or the first violated rule: the number of its form, from 1, and its kind. It goes over
+/// the forms once and takes time in proportion to them, but for the attributes of a class, which are looked through.
 pub fn check(alloc: Global, forms: &Forms) -> Result<Program, CheckRefusal>
     ensures ok { IfOk result (λ program. checked forms.now ≡ Ok program) }
     ensures sound { IfOk result IsSound }
+    ensures makes { IfOk result (λ program. length program.makes ≤ length forms.now) }
     ensures refused { IfErr result (TellsForm (checked forms.now)) }
 {
     let mut declarations = Declarations::new(alloc);

@@ -1,8 +1,9 @@
 //! The classes of a program: the rules of `literalize`, and how later forms find a class.
 
-ghost use Rattle.std.specs.Prelude.{◌≡◌, ◌≤◌, ◌<◌, Ok, [], length, IfOk, IfErr, IfSome, OnOk};
+ghost use Rattle.std.specs.Prelude.{◌≡◌, ◌≤◌, ◌<◌, ◌==◌, Ok, [], length, position, IfOk, IfErr, IfSome, OnOk};
 ghost use Rattle.rule_base.specs.declared.program.Class.{Class};
 ghost use Rattle.rule_checker.specs.Names.{number_in};
+ghost use Rattle.rule_checker.specs.Kept.{AreFewClasses};
 ghost use Rattle.rule_checker.specs.Walk.{after_each};
 ghost use Rattle.rule_checker.specs.Outcome.{Tells};
 ghost use Rattle.rule_checker.specs.Classes.{class_names, not_yet_declared, few_classes, new_attribute, few_attributes, with_attribute, with_class, declared_class, attributes_at, has_attribute};
@@ -100,10 +101,7 @@ impl Classes {
         ensures attributes { result.now ≡ attributes_at self.now number }
         ensures few { length result.now ≤ 64 }
     {
-        match self.classes.get(number as usize) {
-            Some(class) => class.attrs.as_slice(),
-            None => &[],
-        }
+        attributes_at(self.classes.as_slice(), number)
     }
 
     /// The list of the classes.
@@ -114,7 +112,38 @@ impl Classes {
     }
 }
 
-// The number of a name among few names.
+/// The place of the class of this name among few classes.
+fn class_place(classes: &[Class], name: u32) -> Option<usize>
+    ensures place { result ≡ position (λ (c : Class). name == c.name) classes.now }
+    ensures within { IfSome result (λ place. place < length classes.now) }
+{
+    classes.iter().position(|class| name == class.name)
+}
+
+/// The number of the class of this name, for which few classes are looked through.
+pub fn declared_class(classes: &[Class], name: u32) -> Result<u32, CheckKind>
+    requires { length classes.now ≤ 256 }
+    ensures { result ≡ declared_class classes.now name }
+{
+    match class_place(classes, name) {
+        Some(number) => Ok(number as u32),
+        None => Err(CheckKind::UnknownClass),
+    }
+}
+
+/// The attributes of the class with this number.
+pub fn attributes_at(classes: &[Class], number: u32) -> &[u32]
+    requires { AreFewClasses classes.now }
+    ensures attributes { result.now ≡ attributes_at classes.now number }
+    ensures few { length result.now ≤ 64 }
+{
+    match classes.get(number as usize) {
+        Some(class) => class.attrs.as_slice(),
+        None => &[],
+    }
+}
+
+/// The number of a name among few names.
 fn number_in(names: &[u32], name: u32) -> Option<usize>
     ensures number { result ≡ number_in names.now name }
     ensures within { IfSome result (λ number. number < length names.now) }

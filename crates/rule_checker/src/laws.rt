@@ -1,6 +1,6 @@
 //! Laws of the definitions. Each function here does nothing: its contract is the law.
 
-ghost use Rattle.rule_checker.specs.Laws.{CheckedAreSound, ProgramKinds, MemoryFileKinds};
+ghost use Rattle.rule_checker.specs.Laws.{CheckedAreSound, CheckedDeclareAll, ViolationsAreFirst, FrontDecides, ProgramKinds, MemoryFileKinds};
 ghost use Rattle.rule_checker.specs.Rows.Programs.{ArePrograms};
 ghost use Rattle.rule_checker.specs.Rows.Violations.{AreDeclarationViolations, AreConditionViolations, AreActionViolations};
 ghost use Rattle.rule_checker.specs.Rows.Openings.{AreOpenings};
@@ -25,6 +25,19 @@ pub fn openings()
 /// Checked programs are sound.
 pub fn checked_programs_are_sound()
     ensures { CheckedAreSound }
+{}
+
+/// A checked program has the classes of its forms, their rules by name and their makes by class, in
+/// their order and no others.
+pub fn checked_programs_declare_all()
+    ensures { CheckedDeclareAll }
+{}
+
+/// The first violation is where the forms before it are those of a program to which its form can't be
+/// added, and there alone. So forms behind it don't matter.
+pub fn violations_are_first()
+    ensures first { ViolationsAreFirst }
+    ensures front { FrontDecides }
 {}
 
 /// Violations of a program are never of the kind that only a memory file has, and those of a memory file

@@ -1,16 +1,19 @@
 //! The left-hand side of a rule: its condition elements, from left to right.
 
 ghost use Rattle.std.specs.Prelude.{◌≡◌, ◌<◌, ◌≤◌, ◌+◌, Ok, length, IfOk, OnOk, IfErr};
+ghost use Rattle.std.specs.List.{flat_map};
+ghost use Rattle.ops_reader.specs.Named.{numbers_in_condition};
 ghost use Rattle.rule_checker.specs.Walk.{after_each};
 ghost use Rattle.rule_checker.specs.Outcome.{Tells};
-ghost use Rattle.rule_checker.specs.Kept.{HasFewConditions};
+ghost use Rattle.rule_checker.specs.Scope.{no_variables};
+ghost use Rattle.rule_checker.specs.Kept.{HasFewConditions, HasRoom, GrowsWithin};
 ghost use Rattle.rule_checker.specs.LeftSide.{few_conditions, first_is_positive, new_element_variable, with_element, elements_after, with_pattern, with_cond, no_conditions, left_side};
 
 use crate::classes::Classes;
+use crate::condition_tests::tests_of;
 use crate::names::Numbering;
 use crate::refusal::{CheckKind, Refusal};
 use crate::scope::Scope;
-use crate::tests_so_far::tests_of;
 use ops_reader::FormCond;
 use ops_text::Sequence;
 use rule_base::Cond;
@@ -114,8 +117,11 @@ impl LeftSide {
         requires few { length self.conds < 32 }
         requires elements { length self.elements.classes ≤ length self.conds }
         requires size { length attrs.now ≤ 64 }
+        requires room { HasRoom self.scope (numbers_in_condition cond.now) }
         ensures ok { IfOk result (λ next. with_pattern class attrs.now self cond.now ≡ Ok next) }
         ensures few { IfOk result HasFewConditions }
+        ensures count { IfOk result
+            (λ next. GrowsWithin self.scope (numbers_in_condition cond.now) next.scope) }
         ensures refused { IfErr result (Tells (with_pattern class attrs.now self cond.now)) }
     {
         let negated = cond.negated;
@@ -141,9 +147,12 @@ impl LeftSide {
         classes: &Classes,
         cond: &FormCond,
     ) -> Result<LeftSide, Refusal>
-        requires { HasFewConditions self }
+        requires few { HasFewConditions self }
+        requires room { HasRoom self.scope (numbers_in_condition cond.now) }
         ensures ok { IfOk result (λ next. with_cond classes.now self cond.now ≡ Ok next) }
         ensures few { IfOk result HasFewConditions }
+        ensures count { IfOk result
+            (λ next. GrowsWithin self.scope (numbers_in_condition cond.now) next.scope) }
         ensures refused { IfErr result (Tells (with_cond classes.now self cond.now)) }
     {
         self.few_conditions()?;
@@ -155,8 +164,11 @@ impl LeftSide {
 
 /// The left-hand side of these condition elements.
 pub fn left_side(alloc: Global, classes: &Classes, conds: &[FormCond]) -> Result<LeftSide, Refusal>
+    requires room { HasRoom no_variables (flat_map numbers_in_condition conds.now) }
     ensures ok { IfOk result (λ left. left_side classes.now conds.now ≡ Ok left) }
     ensures few { IfOk result HasFewConditions }
+    ensures count { IfOk result
+        (λ left. GrowsWithin no_variables (flat_map numbers_in_condition conds.now) left.scope) }
     ensures refused { IfErr result (Tells (left_side classes.now conds.now)) }
 {
     let mut left = LeftSide::new(alloc);

@@ -4,6 +4,7 @@
 
 mod checking;
 mod classes;
+mod condition_tests;
 mod expressions;
 pub mod laws;
 mod left_side;
@@ -17,7 +18,6 @@ mod scope;
 mod terms;
 #[cfg(test)]
 mod tests;
-mod tests_so_far;
 
 pub use checking::check;
 pub use loading::load;

@@ -1,49 +1,20 @@
 //! The opening memory of a program.
 
-ghost use Rattle.std.specs.Prelude.{◌≡◌, ℕ, ◌≤◌, ◌<◌, Ok, [], length, fold, position, ◌==◌, IfOk, IfErr, IfSome, OnOk};
-ghost use Rattle.rule_base.specs.declared.program.Class.{Class};
-ghost use Rattle.rule_base.specs.Sound.{IsSound};
+ghost use Rattle.std.specs.Prelude.{◌≡◌, ◌<◌, ◌^◌, Ok, [], length, fold, IfOk, IfErr, OnOk};
+ghost use Rattle.rule_base.specs.Sound.{IsSound, sizes_of};
+ghost use Rattle.rule_base.specs.Opening.{IsOpening};
 ghost use Rattle.rule_checker.specs.Kept.{AreFewClasses};
 ghost use Rattle.rule_checker.specs.Outcome.{Tells, TellsForm};
-ghost use Rattle.rule_checker.specs.Classes.{declared_class, attributes_at};
 ghost use Rattle.rule_checker.specs.Makes.{make_of};
 ghost use Rattle.rule_checker.specs.Opening.{is_make, with_made, with_initial, opening_list};
 
+use crate::classes::{attributes_at, declared_class};
 use crate::makes::values_of;
 use crate::refusal::{CheckKind, CheckRefusal, Refusal};
 use ops_reader::{Form, Forms};
 use ops_text::{Duplicate, OutOfMemory, Sequence};
 use rule_base::{Class, Element, Program, Value};
 use std::alloc::Global;
-
-// The place of the class of this name. There are few classes.
-fn class_place(classes: &[Class], name: u32) -> Option<usize>
-    ensures place { result ≡ position (λ (c : Class). name == c.name) classes.now }
-    ensures within { IfSome result (λ place. place < length classes.now) }
-{
-    classes.iter().position(|class| name == class.name)
-}
-
-fn declared_class(classes: &[Class], name: u32) -> Result<u32, CheckKind>
-    requires { length classes.now ≤ 256 }
-    ensures { result ≡ declared_class classes.now name }
-{
-    match class_place(classes, name) {
-        Some(number) => Ok(number as u32),
-        None => Err(CheckKind::UnknownClass),
-    }
-}
-
-fn attributes_at(classes: &[Class], number: u32) -> &[u32]
-    requires { AreFewClasses classes.now }
-    ensures attributes { result.now ≡ attributes_at classes.now number }
-    ensures few { length result.now ≤ 64 }
-{
-    match classes.get(number as usize) {
-        Some(class) => class.attrs.as_slice(),
-        None => &[],
-    }
-}
 
 fn make_of(
     alloc: Global,
@@ -114,7 +85,8 @@ fn add_form(
 }
 
 /// The elements with which a run begins: those of the program's top-level makes and then those of the
-/// memory file's, or the first violated rule of the memory file.
+/// memory file's, or the first violated rule of the memory file. It goes over both once, and looks through the
+/// classes and the attributes of one for each form of the memory file.
 pub fn load(
     alloc: Global,
     program: &Program,
@@ -122,6 +94,8 @@ pub fn load(
 ) -> Result<Sequence<Element>, CheckRefusal>
     requires { IsSound program.now }
     ensures ok { IfOk result (λ elements. opening_list program.now memory.now ≡ Ok elements) }
+    ensures opening { length program.now.makes < 2 ^ 32
+        → IfOk result (IsOpening (sizes_of program.now.classes)) }
     ensures refused { IfErr result (TellsForm (opening_list program.now memory.now)) }
 {
     let classes = program.classes.as_slice();

@@ -31,7 +31,7 @@ impl Names {
         }
     }
 
-    /// The number of a name, if it is there. It takes the same time however many names there are.
+    /// The number of a name, if it is there. On average it takes the same time however many names there are.
     pub fn number(&self, name: u32) -> Option<usize>
         ensures { result ≡ number_in self.now name }
     {
@@ -71,7 +71,7 @@ impl Numbering {
         }
     }
 
-    /// The number of a name, if it is there. It takes the same time however many names there are.
+    /// The number of a name, if it is there. On average it takes the same time however many names there are.
     pub fn number(&self, name: u32) -> Option<u32>
         ensures { result ≡ number_of self.now name }
     {

@@ -1,11 +1,14 @@
 //! The right-hand side of a rule: its actions, from the first to the last.
 
-ghost use Rattle.std.specs.Prelude.{◌≡◌, ◌≤◌, Ok, [], length, IfOk, OnOk, IfErr, IsOkUnless};
+ghost use Rattle.std.specs.Prelude.{◌≡◌, ◌+◌, ◌^◌, ◌<◌, ◌≤◌, Ok, [], length, IfOk, OnOk, IfErr, IsOkUnless};
+ghost use Rattle.std.specs.List.{flat_map};
 ghost use Rattle.ops_reader.specs.declared.form.At.TheVariants.{Number as by_number};
+ghost use Rattle.ops_reader.specs.Named.{numbers_in_action};
 ghost use Rattle.rule_checker.specs.declared.refusal.Refusal.TheVariants.{OutOfMemory as no_memory};
 ghost use Rattle.rule_checker.specs.Walk.{after_each};
 ghost use Rattle.rule_checker.specs.Outcome.{Tells};
 ghost use Rattle.rule_checker.specs.Scope.{variable_of};
+ghost use Rattle.rule_checker.specs.Kept.{HasRoom, GrowsWithin};
 ghost use Rattle.rule_checker.specs.RightSide.{few_actions, known_designator, setting_of, with_setting, with_designator, make_action, attributes_of, modify_action, set_variable, with_plain_action, bind_action, after_action, with_action, right_side};
 
 use crate::classes::{Classes, has_attribute};
@@ -152,8 +155,10 @@ fn modify_action(
 }
 
 fn set_variable(scope: &mut Scope, name: u32) -> Result<u32, Refusal>
+    requires room { scope.old.vars + 1 < 2 ^ 32 }
     ensures ok { IfOk result
         (λ var. (var, scope.new) ≡ set_variable scope.old name (variable_of scope.old name)) }
+    ensures count { OnOk result (scope.new.vars ≤ scope.old.vars + 1) }
     ensures err { IsOkUnless result no_memory }
 {
     match scope.variable(name) {
@@ -181,7 +186,9 @@ impl RightSide {
     }
 
     fn add_bind(&mut self, alloc: Global, name: u32, term: &FormTerm) -> Result<(), Refusal>
+        requires room { self.old.scope.vars + 1 < 2 ^ 32 }
         ensures ok { OnOk result (bind_action self.old name term.now ≡ Ok self.new) }
+        ensures count { OnOk result (self.new.scope.vars ≤ self.old.scope.vars + 1) }
         ensures refused { IfErr result (Tells (bind_action self.old name term.now)) }
     {
         let term = term_of(alloc, &self.scope, term)?;
@@ -197,9 +204,12 @@ impl RightSide {
         elements: &Elements,
         action: &FormAction,
     ) -> Result<(), Refusal>
-        requires { length elements.now.classes ≤ 32 }
+        requires elements { length elements.now.classes ≤ 32 }
+        requires room { HasRoom self.old.scope (numbers_in_action action.now) }
         ensures ok { OnOk result
             (after_action classes.now elements.now self.old action.now ≡ Ok self.new) }
+        ensures count { OnOk result
+            (GrowsWithin self.old.scope (numbers_in_action action.now) self.new.scope) }
         ensures refused { IfErr result
             (Tells (after_action classes.now elements.now self.old action.now)) }
     {
@@ -239,9 +249,12 @@ impl RightSide {
         elements: &Elements,
         action: &FormAction,
     ) -> Result<(), Refusal>
-        requires { length elements.now.classes ≤ 32 }
+        requires elements { length elements.now.classes ≤ 32 }
+        requires room { HasRoom self.old.scope (numbers_in_action action.now) }
         ensures ok { OnOk result
             (with_action classes.now elements.now self.old action.now ≡ Ok self.new) }
+        ensures count { OnOk result
+            (GrowsWithin self.old.scope (numbers_in_action action.now) self.new.scope) }
         ensures refused { IfErr result
             (Tells (with_action classes.now elements.now self.old action.now)) }
     {
@@ -258,7 +271,8 @@ pub fn right_side(
     elements: &Elements,
     actions: &[FormAction],
 ) -> Result<RightSide, Refusal>
-    requires { length elements.now.classes ≤ 32 }
+    requires elements { length elements.now.classes ≤ 32 }
+    requires room { HasRoom scope (flat_map numbers_in_action actions.now) }
     ensures ok { IfOk result
         (λ right. right_side classes.now scope elements.now actions.now ≡ Ok right) }
     ensures refused { IfErr result

@@ -1,7 +1,11 @@
 //! The rules of a program, each of which is found by its name.
 
 ghost use Rattle.std.specs.Prelude.{◌≡◌, Ok, [], IfOk, OnOk, IfErr};
+ghost use Rattle.ops_reader.specs.declared.form.Form.TheVariants as form;
+ghost use Rattle.ops_reader.specs.Named.{numbers_in_form};
 ghost use Rattle.rule_checker.specs.Outcome.{Tells};
+ghost use Rattle.rule_checker.specs.Scope.{no_variables};
+ghost use Rattle.rule_checker.specs.Kept.{HasRoom};
 ghost use Rattle.rule_checker.specs.Rules.{new_rule_name, few_rules, checked_rule, with_rule};
 
 use crate::classes::Classes;
@@ -48,6 +52,7 @@ fn checked_rule(
     conds: &[FormCond],
     actions: &[FormAction],
 ) -> Result<Rule, Refusal>
+    requires room { HasRoom no_variables (numbers_in_form (form.P name conds.now actions.now)) }
     ensures ok { IfOk result
         (λ rule. checked_rule classes.now name conds.now actions.now ≡ Ok rule) }
     ensures refused { IfErr result
@@ -101,6 +106,7 @@ impl Rules {
         conds: &[FormCond],
         actions: &[FormAction],
     ) -> Result<Rules, Refusal>
+        requires room { HasRoom no_variables (numbers_in_form (form.P name conds.now actions.now)) }
         ensures ok { IfOk result
             (λ next. with_rule classes.now self name conds.now actions.now ≡ Ok next) }
         ensures refused { IfErr result

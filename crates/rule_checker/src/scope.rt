@@ -1,6 +1,6 @@
 //! The variables of a rule, as its text is walked.
 
-ghost use Rattle.std.specs.Prelude.{◌≡◌, None, IfOk, OnOk};
+ghost use Rattle.std.specs.Prelude.{◌≡◌, ◌+◌, ◌^◌, ◌<◌, None, IfOk, OnOk};
 ghost use Rattle.rule_checker.specs.Names.{number_of};
 ghost use Rattle.rule_checker.specs.Scope.{no_variables, variable_of, bound_to_its_left, with_variable, behind};
 
@@ -50,23 +50,20 @@ impl Scope {
         }
     }
 
-    /// Adds a variable of a new name, and tells its number. Numbers have 32 bits; a rule that used them up would
-    /// take far more memory than there is.
+    /// Adds a variable of a new name, and tells its number.
     pub fn add(&mut self, negated: bool, name: u32) -> Result<u32, OutOfMemory>
-        requires { variable_of self.old name ≡ None }
+        requires new_name { variable_of self.old name ≡ None }
+        requires room { self.old.vars + 1 < 2 ^ 32 }
         ensures number { IfOk result (λ var. var ≡ self.old.vars) }
         ensures scope { OnOk result (self.new ≡ with_variable negated self.old name) }
     {
         let var = self.vars;
-        let Some(vars) = var.checked_add(1) else {
-            return Err(OutOfMemory);
-        };
         if negated {
             self.local.add(name, var)?;
         } else {
             self.bound.add(name, var)?;
         }
-        self.vars = vars;
+        self.vars = var + 1;
         Ok(var)
     }
 

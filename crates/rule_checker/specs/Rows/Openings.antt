@@ -1,5 +1,5 @@
 -- What a memory file adds to the opening memory.
-use Rattle.std.specs.Prelude.{◌≡◌, List, [], ◌∷◌, false, pos, Result, Ok, Err}
+use Rattle.std.specs.Prelude.{◌≡◌, [], ◌∷◌, pos, Ok, Err}
 use Rattle.rule_base.specs.declared.value.Value.TheVariants.{Int, Sym}
 use Rattle.rule_base.specs.declared.program.Program.{Program}
 use Rattle.ops_reader.specs.declared.form.Form.TheVariants as form

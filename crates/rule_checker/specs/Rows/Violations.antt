@@ -1,5 +1,5 @@
 -- Which rule a program violates first.
-use Rattle.std.specs.Prelude.{◌≡◌, ℕ, ◌+◌, List, [], ◌∷◌, ◌++◌, true, false, Some, pos, replicate, Result, Err}
+use Rattle.std.specs.Prelude.{◌≡◌, ℕ, [], ◌∷◌, ◌++◌, pos, replicate, Result, Err}
 use Rattle.std.specs.List.{range_with_len}
 use Rattle.rule_base.specs.declared.value.Value.TheVariants.{Int}
 use Rattle.rule_base.specs.declared.condition.Pred.TheVariants.{Gt}
@@ -8,7 +8,6 @@ use Rattle.ops_reader.specs.declared.form.Simple.TheVariants as simple
 use Rattle.ops_reader.specs.declared.form.At.TheVariants as at
 use Rattle.ops_reader.specs.declared.form.FormTerm.TheVariants as form_term
 use Rattle.ops_reader.specs.declared.form.FormAction.TheVariants as form_action
-use Rattle.ops_reader.specs.declared.form.Form.{Form}
 use Rattle.ops_reader.specs.declared.form.Form.TheVariants as form
 use Rattle.rule_base.specs.declared.program.Program.{Program}
 use Rattle.rule_checker.specs.declared.refusal.CheckKind.{CheckKind}

@@ -1,5 +1,5 @@
 -- The forms of the rows.
-use Rattle.std.specs.Prelude.{ℕ, List, [], ◌∷◌, true, false, Option, Some, None, pos}
+use Rattle.std.specs.Prelude.{ℕ, List, [], ◌∷◌, true, false, Some, None, pos}
 use Rattle.rule_base.specs.declared.value.Value.TheVariants.{Int}
 use Rattle.ops_reader.specs.declared.form.FormArg.TheVariants as arg
 use Rattle.ops_reader.specs.declared.form.Simple.{Simple}

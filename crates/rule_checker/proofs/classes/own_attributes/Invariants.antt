@@ -1,4 +1,4 @@
-use Rattle.std.proofs.Common.{◌≡◌, ◌≤◌, ◌+◌, ◌++◌, length, drop, [], replicate}
+use Rattle.std.proofs.Common.{◌≡◌, ◌≤◌, length, drop, []}
 use Rattle.rule_checker.specs.Walk.{after_each}
 use Rattle.rule_checker.specs.Classes.{with_attribute}
 use Rattle.rule_checker.proofs.classes.own_attributes.Given as goal

@@ -1,6 +1,6 @@
-use Rattle.std.proofs.Common.{◌≡◌, ◌+◌, [], drop, fold}
+use Rattle.std.proofs.Common.{◌≡◌, ◌+◌, drop}
 use Rattle.rule_checker.specs.Forms.{after_forms}
-use Rattle.rule_checker.specs.Opening.{with_made, with_initial, opening_list}
+use Rattle.rule_checker.specs.Opening.{with_initial, opening_list}
 use Rattle.rule_checker.proofs.loading.load.Given as goal
 
 -- what is left leads to the same end

@@ -1,4 +1,4 @@
-use Rattle.std.proofs.Common.{◌≡◌, ◌≤◌, ◌+◌, ◌++◌, length, drop, [], replicate}
+use Rattle.std.proofs.Common.{◌≡◌, length, drop, replicate}
 use Rattle.rule_checker.specs.Walk.{after_each}
 use Rattle.rule_base.specs.Value.{nil}
 use Rattle.rule_checker.specs.Makes.{with_value}

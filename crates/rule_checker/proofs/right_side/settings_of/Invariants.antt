@@ -1,4 +1,4 @@
-use Rattle.std.proofs.Common.{◌≡◌, ◌≤◌, ◌+◌, ◌++◌, length, drop, [], replicate}
+use Rattle.std.proofs.Common.{◌≡◌, drop, []}
 use Rattle.rule_checker.specs.Walk.{after_each}
 use Rattle.rule_checker.specs.RightSide.{with_setting}
 use Rattle.rule_checker.proofs.right_side.settings_of.Given as goal

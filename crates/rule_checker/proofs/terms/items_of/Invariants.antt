@@ -1,4 +1,4 @@
-use Rattle.std.proofs.Common.{◌≡◌, ◌≤◌, ◌+◌, ◌++◌, length, drop, [], replicate}
+use Rattle.std.proofs.Common.{◌≡◌, drop, []}
 use Rattle.rule_checker.specs.Walk.{after_each}
 use Rattle.rule_checker.specs.Terms.{with_item}
 use Rattle.rule_checker.proofs.terms.items_of.Given as goal

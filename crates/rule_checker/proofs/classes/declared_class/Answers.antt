@@ -4,7 +4,7 @@ use Rattle.rule_base.specs.declared.program.Class.{Class}
 use Rattle.rule_checker.specs.declared.refusal.CheckKind.TheVariants.{UnknownClass}
 use Rattle.rule_checker.specs.Walk.{found_or}
 use Rattle.rule_checker.proofs.NumberLemmas.{position-map}
-use Rattle.rule_checker.proofs.loading.declared_class.Goals as goal
+use Rattle.rule_checker.proofs.classes.declared_class.Goals as goal
 
 pub returns-in-Some : goal.returns-in-Some
 returns-in-Some c = ap (λ o. found_or o UnknownClass) (sym c.in-Some.is ∙ c.class_place.ensures.place ∙ sym (position-map (nat_eq c.args.name) (λ (d : Class). d.name) c.args.classes.now))

@@ -1,13 +1,16 @@
 //! The tests of a condition element, from left to right.
 
-ghost use Rattle.std.specs.Prelude.{◌≡◌, ◌≤◌, Ok, length, IfOk, OnOk, IfErr, IsOkUnless};
+ghost use Rattle.std.specs.Prelude.{◌≡◌, ◌+◌, ◌^◌, ◌<◌, ◌≤◌, Ok, length, IfOk, OnOk, IfErr, IsOkUnless};
+ghost use Rattle.std.specs.List.{flat_map};
 ghost use Rattle.rule_base.specs.declared.condition.Arg.TheVariants as arg;
 ghost use Rattle.rule_base.specs.declared.condition.Test.TheVariants as test;
+ghost use Rattle.ops_reader.specs.Named.{numbers_in_simple};
 ghost use Rattle.rule_checker.specs.declared.refusal.Refusal.TheVariants.{OutOfMemory as no_memory};
 ghost use Rattle.rule_checker.specs.Walk.{after_each};
 ghost use Rattle.rule_checker.specs.Outcome.{Tells};
 ghost use Rattle.rule_checker.specs.Scope.{variable_of};
-ghost use Rattle.rule_checker.specs.Tests.{with_test, with_use, with_comparison, with_simple, with_tests, tests_of};
+ghost use Rattle.rule_checker.specs.Kept.{numbers_in_tests, HasRoom, GrowsWithin};
+ghost use Rattle.rule_checker.specs.ConditionTests.{with_test, with_use, with_comparison, with_simple, with_tests, tests_of};
 
 use crate::classes::has_attribute;
 use crate::refusal::Refusal;
@@ -56,8 +59,10 @@ impl TestsSoFar {
     }
 
     fn add_use(&mut self, negated: bool, attr: u32, name: u32) -> Result<(), Refusal>
+        requires room { self.old.scope.vars + 1 < 2 ^ 32 }
         ensures ok { OnOk result
             (self.new ≡ with_use negated attr self.old name (variable_of self.old.scope name)) }
+        ensures count { OnOk result (self.new.scope.vars ≤ self.old.scope.vars + 1) }
         ensures err { IsOkUnless result no_memory }
     {
         if let Some(var) = self.scope.variable(name) {
@@ -85,7 +90,10 @@ impl TestsSoFar {
         attr: u32,
         simple: &Simple,
     ) -> Result<(), Refusal>
+        requires room { HasRoom self.old.scope (numbers_in_simple simple.now) }
         ensures ok { OnOk result (with_simple negated attr self.old simple.now ≡ Ok self.new) }
+        ensures count { OnOk result
+            (GrowsWithin self.old.scope (numbers_in_simple simple.now) self.new.scope) }
         ensures refused { IfErr result (Tells (with_simple negated attr self.old simple.now)) }
     {
         match simple {
@@ -104,8 +112,11 @@ impl TestsSoFar {
         attr: u32,
         simples: &[Simple],
     ) -> Result<(), Refusal>
+        requires room { HasRoom self.old.scope (flat_map numbers_in_simple simples.now) }
         ensures ok { OnOk result
             (after_each (with_simple negated attr) self.old simples.now ≡ Ok self.new) }
+        ensures count { OnOk result
+            (GrowsWithin self.old.scope (flat_map numbers_in_simple simples.now) self.new.scope) }
         ensures refused { IfErr result
             (Tells (after_each (with_simple negated attr) self.old simples.now)) }
     {
@@ -122,8 +133,11 @@ impl TestsSoFar {
         attrs: &[u32],
         written: &(u32, Sequence<Simple>),
     ) -> Result<(), Refusal>
-        requires { length attrs.now ≤ 64 }
+        requires size { length attrs.now ≤ 64 }
+        requires room { HasRoom self.old.scope (numbers_in_tests written.now) }
         ensures ok { OnOk result (with_tests negated attrs.now self.old written.now ≡ Ok self.new) }
+        ensures count { OnOk result
+            (GrowsWithin self.old.scope (numbers_in_tests written.now) self.new.scope) }
         ensures refused { IfErr result (Tells (with_tests negated attrs.now self.old written.now)) }
     {
         let attr = has_attribute(attrs, written.0)?;
@@ -139,8 +153,11 @@ pub fn tests_of(
     attrs: &[u32],
     written: &[(u32, Sequence<Simple>)],
 ) -> Result<TestsSoFar, Refusal>
-    requires { length attrs.now ≤ 64 }
+    requires size { length attrs.now ≤ 64 }
+    requires room { HasRoom scope (flat_map numbers_in_tests written.now) }
     ensures ok { IfOk result (λ done. tests_of scope negated attrs.now written.now ≡ Ok done) }
+    ensures count { IfOk result
+        (λ done. GrowsWithin scope (flat_map numbers_in_tests written.now) done.scope) }
     ensures refused { IfErr result (Tells (tests_of scope negated attrs.now written.now)) }
 {
     let mut done = TestsSoFar {

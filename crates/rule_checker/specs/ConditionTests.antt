@@ -11,7 +11,7 @@ use Rattle.ops_reader.specs.declared.form.Simple.{Simple}
 use Rattle.ops_reader.specs.declared.form.Simple.TheVariants as simple
 use Rattle.rule_checker.specs.declared.refusal.CheckKind.{CheckKind}
 use Rattle.rule_checker.specs.declared.scope.Scope.{Scope}
-use Rattle.rule_checker.specs.declared.tests_so_far.TestsSoFar.{TestsSoFar}
+use Rattle.rule_checker.specs.declared.condition_tests.TestsSoFar.{TestsSoFar}
 use Rattle.rule_checker.specs.Classes.{has_attribute}
 use Rattle.rule_checker.specs.Scope.{variable_of, bound_to_its_left, with_variable}
 use Rattle.rule_checker.specs.Walk.{after_each}
@@ -23,7 +23,8 @@ with_test done t = record done { tests = done.tests ++ t ∷ [] }
 -- a plain use of a variable: a later one asks for the variable's value, the first one binds it
 abbrev pub with_use : Bool → ℕ → TestsSoFar → ℕ → Option ℕ → TestsSoFar
 with_use negated attr done name (Some var) = with_test done (test.Cmp attr Eq (arg.Var var))
-with_use negated attr done name None = record { tests = done.tests ++ test.Bind attr done.scope.vars ∷ []; scope = with_variable negated done.scope name }
+with_use negated attr done name None =
+    record { tests = done.tests ++ test.Bind attr done.scope.vars ∷ []; scope = with_variable negated done.scope name }
 
 -- a predicate with a variable, which is bound to its left
 abbrev pub with_comparison : ℕ → TestsSoFar → Pred → ℕ → Result TestsSoFar CheckKind

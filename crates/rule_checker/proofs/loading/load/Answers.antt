@@ -1,0 +1,23 @@
+-- The elements of makes are an opening.
+use Rattle.std.proofs.Common.{◌+◌, drop, sym, ap, ◌∙◌, subst}
+use Rattle.std.proofs.lemmas.List.{at_drop_all}
+use Rattle.rule_base.specs.Sound.{sizes_of}
+use Rattle.rule_base.specs.Opening.{IsOpening}
+use Rattle.rule_checker.specs.Forms.{after_forms}
+use Rattle.rule_checker.specs.Opening.{with_initial}
+use Rattle.rule_checker.proofs.OpeningLemmas.{opening_list-IsOpening}
+use Rattle.rule_checker.proofs.loading.load.Goals as goal
+
+pub returns-clause-opening : goal.returns-clause-opening
+returns-clause-opening c few_makes =
+    let program = c.args.program.now in
+    let memory = c.args.memory.now in
+    let elements = c.loop-form.elements.items in
+    let number = c.loop-form.loaded + 1 in
+    let index = c.loop-form.form-index in
+    let all = sym (at_drop_all (after_forms (with_initial program.classes) number elements) c.as_slice-form-items.result.now index c.loop-form-test.false) in
+    let same_forms = ap (λ forms. after_forms (with_initial program.classes) number elements (drop index forms)) c.as_slice-form-items.ensures.forms in
+    let same_classes = ap (λ classes. after_forms (with_initial classes) number elements (drop index memory)) c.as_slice-classes.ensures in
+    let passes = sym c.loop-form.invariant.same ∙ same_classes ∙ sym same_forms ∙ sym all in
+    subst (IsOpening (sizes_of program.classes)) (sym c.from_vec.ensures)
+    (opening_list-IsOpening program memory elements c.requires few_makes c.as_slice-form-items.ensures.shape.few passes)
