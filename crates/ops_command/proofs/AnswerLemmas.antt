@@ -1,5 +1,5 @@
 -- What is said of a part of a call is said of the whole.
-use Rattle.std.proofs.Common.{◌≡◌, ℕ, ◌<◌, ◌≤◌, List, Option, None, Some, inl, inr, refl, sym, ap, ◌∙◌, subst, arith}
+use Rattle.std.proofs.Common.{◌≡◌, ℕ, ◌≤◌, List, Option, None, Some, inl, inr, ap, ◌∙◌, subst, arith}
 use Rattle.ops_text.specs.Faults.{Rose}
 use Rattle.ops_command.specs.declared.status.FileKind.TheVariants as file
 use Rattle.ops_command.specs.Words.{Asked}
@@ -7,7 +7,7 @@ use Rattle.ops_command.specs.Call.{Files}
 use Rattle.ops_command.specs.Account.{Account}
 use Rattle.ops_command.specs.FileBytes.{WereRead, IsUnread}
 use Rattle.ops_command.specs.ProgramText.{NamedProgram}
-use Rattle.ops_command.specs.MemoryText.{NamedOpening, IsFaultyMemory}
+use Rattle.ops_command.specs.MemoryText.{IsFaultyMemory}
 use Rattle.ops_command.specs.MemoryFile.{GivesOpening, IsRefusedMemory}
 use Rattle.ops_command.specs.ProgramFile.{GivesProgram}
 use Rattle.ops_command.specs.Answer.{IsSaidOfProgram, IsSaidOf}

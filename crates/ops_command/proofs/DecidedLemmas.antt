@@ -1,5 +1,5 @@
 -- Where no count of faults rose, what is said of the words is decided by them and the files.
-use Rattle.std.proofs.Common.{◌≡◌, ℕ, ◌+◌, ◌<◌, ◌≤◌, ◌⊎◌, inl, inr, Bool, true, false, not, List, [], ◌∷◌, Option, None, Some, Result, Ok, Err, length, position, slice_get, option_and_then, if◌then◌else◌, refl, sym, ap, ◌∙◌, subst, arith}
+use Rattle.std.proofs.Common.{◌≡◌, ℕ, ◌+◌, ◌<◌, ◌≤◌, ◌⊎◌, inl, inr, Bool, true, not, List, [], ◌∷◌, Option, None, Some, Result, Ok, Err, length, slice_get, option_and_then, refl, sym, ap, ◌∙◌, subst, arith}
 use Rattle.std.specs.List.{list_all, position_from}
 use Rattle.std.proofs.lemmas.Option.{none-some}
 use Rattle.std.proofs.lemmas.Iterator.Adapters.{position_from-zero}
@@ -23,17 +23,16 @@ use Rattle.ops_command.specs.declared.status.Status.TheVariants as status
 use Rattle.ops_command.specs.Words.{Asked, asked_by}
 use Rattle.ops_command.specs.Call.{Files, Call}
 use Rattle.ops_command.specs.Account.{Account, refusal}
-use Rattle.ops_command.specs.FileBytes.{most_bytes, AreBytesOf, WereRead, IsUnread}
+use Rattle.ops_command.specs.FileBytes.{most_bytes, WereRead}
 use Rattle.ops_command.specs.FaultyText.{IsSyntaxError, IsCheckError}
-use Rattle.ops_command.specs.NotBuilt.{rule_forms, first_unbuilt, unbuilt_form, HasUnbuilt}
+use Rattle.ops_command.specs.NotBuilt.{rule_forms, unbuilt_form, HasUnbuilt}
 use Rattle.ops_command.specs.ProgramText.{first_names, NamedProgram, Defines, IsFaultyProgram}
-use Rattle.ops_command.specs.ProgramFile.{GivesProgram, IsRefusedProgram}
 use Rattle.ops_command.specs.MemoryText.{NamedOpening, Opens, IsFaultyMemory}
-use Rattle.ops_command.specs.MemoryFile.{OpensAlone, GivesOpening, IsRefusedMemory}
+use Rattle.ops_command.specs.MemoryFile.{GivesOpening, IsRefusedMemory}
 use Rattle.ops_command.specs.Ran.{Start, Ran}
-use Rattle.ops_command.specs.Answer.{RanFromOpening, IsSaidOfProgram, IsSaidOf, IsSaidOfWords}
-use Rattle.ops_command.specs.Decided.{HasNoFault, IsUnlessOutOfMemory, AsksToRun, AsksToRunProgram, AsksToLoad, AsksToRunFrom, DecidesText, IsDecided}
-use Rattle.ops_command.proofs.ChainLemmas.{same_ok, same_err, same_some}
+use Rattle.ops_command.specs.Answer.{IsSaidOfProgram, IsSaidOf, IsSaidOfWords}
+use Rattle.ops_command.specs.Decided.{HasNoFault, IsUnlessOutOfMemory, AsksToRun, AsksToRunProgram, AsksToLoad, DecidesText, IsDecided}
+use Rattle.ops_command.proofs.ChainLemmas.{same_ok, same_err}
 use Rattle.ops_command.proofs.ReaderLemmas.{one_reading, one_outcome, one_refusal}
 
 ok_err : {T E : Type 0} {t : T} {e : E} → ◌≡◌ {A = Result T E} (Ok t) (Err e) → ⊥

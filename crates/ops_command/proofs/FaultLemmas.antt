@@ -1,5 +1,5 @@
 -- What is wrong with forms, as the checker tells it.
-use Rattle.std.proofs.Common.{◌≡◌, ℕ, List, Result, Err, inl, inr, refl}
+use Rattle.std.proofs.Common.{ℕ, List, Result, inl, inr, refl}
 use Rattle.ops_text.specs.Names.{Names}
 use Rattle.ops_reader.specs.declared.form.Form.{Form}
 use Rattle.ops_reader.specs.Tokens.{tokens_of}

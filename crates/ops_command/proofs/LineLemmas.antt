@@ -1,5 +1,5 @@
 -- A line is put together from its pieces in one go or piece by piece.
-use Rattle.std.proofs.Common.{◌≡◌, ℕ, List, ◌++◌, Result, IfOk, refl, sym, subst, append_assoc}
+use Rattle.std.proofs.Common.{◌≡◌, ℕ, List, ◌++◌, Result, IfOk, refl, subst, append_assoc}
 
 pub seven_pieces : (a b c d e f g : List ℕ) → a ++ (b ++ (c ++ (d ++ (e ++ (f ++ g))))) ≡ a ++ b ++ c ++ d ++ e ++ f ++ g
 seven_pieces a b c d e f g = rw (← append_assoc a b (c ++ (d ++ (e ++ (f ++ g)))), ← append_assoc (a ++ b) c (d ++ (e ++ (f ++ g))), ← append_assoc (a ++ b ++ c) d (e ++ (f ++ g)), ← append_assoc (a ++ b ++ c ++ d) e (f ++ g), ← append_assoc (a ++ b ++ c ++ d ++ e) f g) refl

@@ -1,5 +1,5 @@
 -- The rules of a checked program are those of its forms, one for one, and so each has a form.
-use Rattle.std.proofs.Common.{◌≡◌, ℕ, zero, suc, ◌+◌, ◌<◌, ◌≤◌, Bool, true, false, not, List, [], ◌∷◌, ◌++◌, Option, None, Some, Result, Ok, Err, length, slice_get, position, option_and_then, if◌then◌else◌, refl, sym, ap, ◌∙◌, subst, arith, length-append}
+use Rattle.std.proofs.Common.{◌≡◌, ℕ, zero, suc, ◌+◌, ◌<◌, ◌≤◌, Bool, true, false, not, List, [], ◌∷◌, ◌++◌, Option, None, Some, Ok, length, slice_get, option_and_then, if◌then◌else◌, refl, sym, ap, ◌∙◌, arith, length-append}
 use Rattle.std.specs.List.{list_all, position_from}
 use Rattle.std.proofs.lemmas.Option.{none-some}
 use Rattle.std.proofs.lemmas.Iterator.Adapters.{position_from-zero}
@@ -12,8 +12,7 @@ use Rattle.ops_reader.specs.declared.form.Form.{Form}
 use Rattle.ops_reader.specs.declared.form.Form.TheVariants as form
 use Rattle.ops_reader.specs.declared.form.FormCond.{FormCond}
 use Rattle.ops_reader.specs.declared.form.FormAction.{FormAction}
-use Rattle.rule_checker.specs.declared.refusal.CheckKind.{CheckKind}
-use Rattle.rule_checker.specs.Forms.{Violation, at_form, after_forms}
+use Rattle.rule_checker.specs.Forms.{at_form, after_forms}
 use Rattle.rule_checker.specs.Classes.{with_class}
 use Rattle.rule_checker.specs.Makes.{make_of}
 use Rattle.rule_checker.specs.Rules.{new_rule_name, few_rules, checked_rule, with_rule}
@@ -50,30 +49,7 @@ rules_counted number n p (f ∷ forms) q e =
     let w = passed (at_form number (with_form p f)) (λ next. after_forms with_form (number + 1) next forms) q e in
     omega (arith, rules_counted (number + 1) (n + 1) w.0 forms q w.2, rules_after n p f w.0 forms (at_form-passes number (with_form p f) w.0 w.1))
 
-makes_after : (p : Program) (f : Form) (next : Program) → with_form p f ≡ Ok next → length next.makes ≤ length p.makes + 1
-makes_after p (form.Literalize class attrs) next e =
-    let w = passed (with_class p.classes class attrs) (λ classes. Ok (record p { classes = classes })) next e in
-    omega (arith, ap (λ (q : Program). length q.makes) (same_ok w.2))
-makes_after p (form.P name conds actions) next e =
-    let w = passed (with_rule p.classes p.rules name conds actions) (λ rules. Ok (record p { rules = rules })) next e in
-    omega (arith, ap (λ (q : Program). length q.makes) (same_ok w.2))
-makes_after p (form.Make class sets) next e =
-    let w = passed (make_of p.classes class sets) (λ make. Ok (record p { makes = p.makes ++ make ∷ [] })) next e in
-    omega (arith, ap (λ (q : Program). length q.makes) (same_ok w.2), length-append p.makes (w.0 ∷ []))
-makes_after p (form.Strategy mea) next e = omega (arith, ap (λ (q : Program). length q.makes) (same_ok e))
-makes_after p (form.Watch level) next e = omega (arith, ap (λ (q : Program). length q.makes) (same_ok e))
-
-makes_counted : (number : ℕ) (p : Program) (forms : List Form) (q : Program) → after_forms with_form number p forms ≡ Ok q → length q.makes ≤ length p.makes + length forms
-makes_counted number p [] q e = omega (arith, ap (λ (x : Program). length x.makes) (same_ok e))
-makes_counted number p (f ∷ forms) q e =
-    let w = passed (at_form number (with_form p f)) (λ next. after_forms with_form (number + 1) next forms) q e in
-    omega (arith, makes_counted (number + 1) w.0 forms q w.2, makes_after p f w.0 (at_form-passes number (with_form p f) w.0 w.1))
-
--- a program has no more makes than its text has forms
-pub checked-makes : (forms : List Form) (p : Program) → checked forms ≡ Ok p → length p.makes ≤ length forms
-checked-makes forms p e = omega (arith, makes_counted 1 no_program forms p e)
-
--- and as many rules as its text has forms that are rules
+-- a program has as many rules as its text has forms that are rules
 pub checked-rules : (forms : List Form) (p : Program) → checked forms ≡ Ok p → length p.rules ≡ length (rule_forms 1 forms)
 checked-rules forms p e = omega (arith, rules_counted 1 1 no_program forms p e)
 

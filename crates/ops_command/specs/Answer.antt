@@ -14,7 +14,7 @@ use Rattle.ops_command.specs.ProgramText.{NamedProgram}
 use Rattle.ops_command.specs.ProgramFile.{GivesProgram, IsRefusedProgram}
 use Rattle.ops_command.specs.MemoryText.{NamedOpening}
 use Rattle.ops_command.specs.MemoryFile.{GivesOpening, IsRefusedMemory}
-use Rattle.ops_command.specs.Ran.{Start, Ran}
+use Rattle.ops_command.specs.Ran.{Ran}
 
 -- the words are faulty
 pub record IsUsage (words : List (List ℕ)) (account : Account) : Type 0 where

@@ -19,3 +19,11 @@ pub record Call : Type 0 where
   pub words : List (List ℕ)
   pub files : Files
   pub output : Output
+
+-- the files of a shelf, told and counted by these, before and after a call
+abbrev pub files_between : {S : Type 0} → (S → List ℕ → Option (List ℕ)) → (S → List ℕ → ℕ) → S → S → Files
+files_between told faults old new = record { told = told old; faults = faults old; faults_after = faults new }
+
+-- what an output holds, told and counted by these, before and after a call
+abbrev pub output_between : {S : Type 0} → (S → Option (List ℕ)) → (S → ℕ) → S → S → Output
+output_between told faults old new = record { held = told old; held_after = told new; faults = faults old; faults_after = faults new }

@@ -1,5 +1,5 @@
 -- When each answer comes: for a call in which no count of faults rose, the words and the files decide.
-use Rattle.std.specs.Prelude.{◌≡◌, ℕ, ◌<◌, ◌≤◌, ◌⊎◌, List, Option, Some, Result, Ok, Err, length}
+use Rattle.std.specs.Prelude.{◌≡◌, ℕ, ◌<◌, ◌≤◌, ◌⊎◌, List, Some, Result, Ok, Err, length}
 use Rattle.ops_text.specs.Names.{Names}
 use Rattle.ops_text.specs.Faults.{Rose}
 use Rattle.ops_reader.specs.declared.form.Form.{Form}
@@ -66,13 +66,18 @@ pub record DecidesText {A : Type 0} (defined : List Form → Result A Violation)
 -- the status is the one that the words and the files decide
 pub record IsDecided (call : Call) (said : Status) : Type 0 where
   pub usage : (kind : UsageKind) → asked_by call.words ≡ Err kind → IsUnlessOutOfMemory (status.Usage kind) said
-  pub program_too_long : (asked : Asked) (bytes : List ℕ) → AsksToRun call asked bytes → most_bytes < length bytes → IsUnlessOutOfMemory (status.TooLong file.Program) said
-  pub program_text : (asked : Asked) (bytes : List ℕ) → AsksToRun call asked bytes → length bytes ≤ most_bytes → DecidesText checked first_names bytes file.Program said
+  pub program_too_long : (asked : Asked) (bytes : List ℕ) → AsksToRun call asked bytes → most_bytes < length bytes
+      → IsUnlessOutOfMemory (status.TooLong file.Program) said
+  pub program_text : (asked : Asked) (bytes : List ℕ) → AsksToRun call asked bytes → length bytes ≤ most_bytes
+      → DecidesText checked first_names bytes file.Program said
   -- at the place that its cause tells
-  pub not_built : (asked : Asked) (bytes : List ℕ) (forms : List Form) (number : ℕ) → AsksToRun call asked bytes → length bytes ≤ most_bytes → HasUnbuilt first_names bytes forms number
+  pub not_built : (asked : Asked) (bytes : List ℕ) (forms : List Form) (number : ℕ) → AsksToRun call asked bytes
+      → length bytes ≤ most_bytes → HasUnbuilt first_names bytes forms number
       → (at : ℕ) × IsUnlessOutOfMemory (status.NotBuilt at) said
-  pub memory_too_long : (asked : Asked) (named : NamedProgram) (bytes : List ℕ) → AsksToLoad call asked named bytes → most_bytes < length bytes → IsUnlessOutOfMemory (status.TooLong file.Memory) said
-  pub memory_text : (asked : Asked) (named : NamedProgram) (bytes : List ℕ) → AsksToLoad call asked named bytes → length bytes ≤ most_bytes → DecidesText (opening_list named.program) named.names bytes file.Memory said
+  pub memory_too_long : (asked : Asked) (named : NamedProgram) (bytes : List ℕ) → AsksToLoad call asked named bytes
+      → most_bytes < length bytes → IsUnlessOutOfMemory (status.TooLong file.Memory) said
+  pub memory_text : (asked : Asked) (named : NamedProgram) (bytes : List ℕ) → AsksToLoad call asked named bytes
+      → length bytes ≤ most_bytes → DecidesText (opening_list named.program) named.names bytes file.Memory said
   -- a program with its opening memory runs to an ending
   pub runs : (asked : Asked) (named : NamedProgram) (opening : NamedOpening) → AsksToRunFrom call asked named opening
       → (said ≡ status.Quiet) ⊎ IsUnlessOutOfMemory (status.Spent asked.budget) said

@@ -12,6 +12,7 @@ pub record Findings : Type 0 where
   pub memory : Memory
   pub next : ℕ
 
+-- what a report finds
 abbrev pub findings_of : Report → Findings
 findings_of report = record { choices = report.choices; memory = report.memory; next = report.next }
 

@@ -21,4 +21,5 @@ GivesOpening told (Some name) named opening = WereRead told name (λ bytes. Open
 -- the memory file that is asked for gives no opening memory of the program, and why
 abbrev pub IsRefusedMemory : Files → Option (List ℕ) → NamedProgram → Account → Type 0
 IsRefusedMemory files None named account = ⊥
-IsRefusedMemory files (Some name) named account = IsUnread files name file.Memory account ⊎ WereRead files.told name (λ bytes. IsFaultyMemory named bytes account)
+IsRefusedMemory files (Some name) named account =
+    IsUnread files name file.Memory account ⊎ WereRead files.told name (λ bytes. IsFaultyMemory named bytes account)

@@ -1,6 +1,5 @@
 -- The opening memory that the bytes of a memory file give, or what is wrong with them.
 use Rattle.std.specs.Prelude.{◌≡◌, ◌⊎◌, ℕ, List, Ok}
-use Rattle.rule_base.specs.declared.program.Program.{Program}
 use Rattle.rule_base.specs.Memory.{Memory}
 use Rattle.ops_text.specs.Names.{Names}
 use Rattle.ops_reader.specs.declared.form.Form.{Form}

@@ -11,14 +11,17 @@ use Rattle.ops_command.specs.declared.status.FileKind.TheVariants as file
 use Rattle.ops_command.specs.declared.status.Status.{Status}
 use Rattle.ops_command.specs.declared.status.Status.TheVariants as status
 
+-- what is wrong with the words
 abbrev pub usage_word : UsageKind → List ℕ
 usage_word usage.Words = codes "words"
 usage_word usage.Number = codes "number"
 
+-- which file
 abbrev pub file_word : FileKind → List ℕ
 file_word file.Program = codes "program"
 file_word file.Memory = codes "memory"
 
+-- why a token is wrong
 abbrev pub syntax_words : SyntaxKind → List ℕ
 syntax_words syntax.Unclosed = codes "unclosed"
 syntax_words syntax.Unexpected = codes "unexpected"
@@ -27,6 +30,7 @@ syntax_words syntax.LongSymbol = codes "long symbol"
 syntax_words syntax.TooDeep = codes "too deep"
 syntax_words syntax.NotInProfile = codes "not in profile"
 
+-- which rule of the language is violated
 abbrev pub check_words : CheckKind → List ℕ
 check_words check.UnknownClass = codes "unknown class"
 check_words check.UnknownAttribute = codes "unknown attribute"
@@ -37,9 +41,11 @@ check_words check.BadDesignator = codes "bad designator"
 check_words check.TooMany = codes "too many"
 check_words check.NotInitial = codes "not initial"
 
+-- the line of a text that is none of the language
 abbrev pub syntax_line : FileKind → ℕ → List ℕ → List ℕ
 syntax_line kind at why = codes "ops: syntax error in " ++ file_word kind ++ codes " at byte " ++ decimal at ++ codes ": " ++ why ++ codes "\n"
 
+-- the line of a form that violates a rule
 abbrev pub check_line : FileKind → ℕ → List ℕ → List ℕ
 check_line kind form why = codes "ops: check error in " ++ file_word kind ++ codes ", form " ++ decimal form ++ codes ": " ++ why ++ codes "\n"
 

@@ -21,7 +21,8 @@ written_text names entries = layout names (flat_map (λ (e : Entry). e.pieces) e
 -- the line that sums a run up: how it ended, as the word says, how many firings it had, how many elements are left
 -- and which tag is the next
 abbrev pub summary_line : List ℕ → ℕ → ℕ → ℕ → List ℕ
-summary_line word firings elements next = codes "; " ++ word ++ codes ", firings " ++ decimal firings ++ codes ", elements " ++ decimal elements ++ codes ", next " ++ decimal next ++ codes "\n"
+summary_line word firings elements next =
+    codes "; " ++ word ++ codes ", firings " ++ decimal firings ++ codes ", elements " ++ decimal elements ++ codes ", next " ++ decimal next ++ codes "\n"
 
 -- the report of a run that came to this state
 abbrev pub run_report : List (List ℕ) → List ℕ → State → List ℕ

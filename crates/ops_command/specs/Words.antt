@@ -1,6 +1,6 @@
 -- The words after the program's name, and what they ask for: `run PROGRAM`, then MEMORY, then `--firings N`, where the
 -- last two may be left out.
-use Rattle.std.specs.Prelude.{◌≡◌, ◌≤◌, ℕ, List, [], ◌∷◌, Bool, ◌&&◌, not, nat_eq, nat_le, codes, length, Option, option_and_then, None, Some, Result, Ok, Err, if◌then◌else◌}
+use Rattle.std.specs.Prelude.{◌≡◌, ℕ, List, [], ◌∷◌, Bool, ◌&&◌, not, nat_eq, nat_le, codes, length, Option, option_and_then, None, Some, Result, Ok, Err, if◌then◌else◌}
 use Rattle.std.specs.List.{starts_with}
 use Rattle.std.specs.Str.{all_ascii_digits, bytes_eq}
 use Rattle.std.specs.Str.Parse.{digits_value}
@@ -58,10 +58,6 @@ asked_behind program (word ∷ rest) = if names_file word then asked_with progra
 abbrev pub asked_by : List (List ℕ) → Result Asked UsageKind
 asked_by (command ∷ program ∷ rest) = if bytes_eq command (codes "run") && names_file program then asked_behind program rest else Err usage.Words
 asked_by other = Err usage.Words
-
--- how many firings may be asked for
-abbrev pub IsBudget : ℕ → Type 0
-IsBudget firings = (1 ≤ firings) × (firings ≤ 4000000)
 
 -- the words ask for something of which this holds
 pub record AsksFor (words : List (List ℕ)) (P : Asked → Type 0) : Type 0 where

@@ -2,7 +2,7 @@
 
 ghost use Rattle.std.specs.Prelude.{◌≡◌, ℕ, List, map};
 ghost use Rattle.std.specs.String.{string_bytes};
-ghost use Rattle.ops_command.specs.Call.{Files, Output, Call};
+ghost use Rattle.ops_command.specs.Call.{Call, files_between, output_between};
 ghost use Rattle.ops_command.specs.Promise.{KeepsPromise};
 
 use crate::plan::plan_words;
@@ -23,8 +23,8 @@ pub fn run_without_threads<F: Shelf, K: Sink>(
     ensures { KeepsPromise
         (record {
           words = map string_bytes words.now;
-          files = record { told = F.told shelf.old; faults = F.faults shelf.old; faults_after = F.faults shelf.new };
-          output = record { held = K.told out.old; held_after = K.told out.new; faults = K.faults out.old; faults_after = K.faults out.new };
+          files = files_between F.told F.faults shelf.old shelf.new;
+          output = output_between K.told K.faults out.old out.new;
         })
         result }
 {

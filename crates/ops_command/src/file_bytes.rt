@@ -1,6 +1,7 @@
 //! The bytes of a file, or the reason why there are none.
 
 ghost use Rattle.std.specs.Prelude.{◌≡◌, ◌≤◌, ℕ, List, IfOk, IfErr};
+ghost use Rattle.ops_command.specs.Call.{files_between};
 ghost use Rattle.ops_command.specs.Account.{IsRefusal};
 ghost use Rattle.ops_command.specs.FileBytes.{AreBytesOf, IsUnread};
 
@@ -20,7 +21,7 @@ pub fn read_file<F: Shelf>(
 ) -> Result<Vec<u8>, Status>
     ensures read { IfOk result (λ bytes. AreBytesOf (F.told shelf.old) name.now bytes.items) }
     ensures unread { IfErr result (IsRefusal (IsUnread
-        (record { told = F.told shelf.old; faults = F.faults shelf.old; faults_after = F.faults shelf.new })
+        (files_between F.told F.faults shelf.old shelf.new)
         name.now file)) }
 
     // Whatever the answer, the files and what is told of them stay.

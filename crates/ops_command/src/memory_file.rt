@@ -4,6 +4,7 @@ ghost use Rattle.std.specs.Prelude.{◌≡◌, ◌+◌, ◌^◌, ◌<◌, ◌≤
 ghost use Rattle.std.specs.Option.{option_copied};
 ghost use Rattle.rule_base.specs.Opening.{IsOpening};
 ghost use Rattle.rule_base.specs.Sound.{IsSound, sizes_of};
+ghost use Rattle.ops_command.specs.Call.{files_between};
 ghost use Rattle.ops_command.specs.Account.{IsRefusal};
 ghost use Rattle.ops_command.specs.FileBytes.{most_bytes};
 ghost use Rattle.ops_command.specs.MemoryText.{Opens, IsFaultyMemory};
@@ -32,7 +33,7 @@ pub fn read_opening<F: Shelf>(
         (record { program = program.now; names = symbols.old })
         (record { elements = elements; names = symbols.new })) }
     ensures refused { IfErr result (IsRefusal (IsRefusedMemory
-        (record { told = F.told shelf.old; faults = F.faults shelf.old; faults_after = F.faults shelf.new })
+        (files_between F.told F.faults shelf.old shelf.new)
         (option_copied name.entry) (record { program = program.now; names = symbols.old }))) }
     ensures opening { IfOk result (IsOpening (sizes_of program.now.classes)) }
 {
@@ -45,7 +46,7 @@ pub fn read_opening<F: Shelf>(
     }
 }
 
-// The opening memory of a program with the elements that these bytes make.
+/// The opening memory of a program with the elements that these bytes make.
 fn opening_of(
     alloc: Global,
     bytes: &[u8],

@@ -175,7 +175,7 @@ impl Page {
     }
 }
 
-// The column after one byte more.
+/// The column after one byte more.
 fn column_after(column: usize, byte: u8) -> usize
     requires { column + 1 < 2 ^ 64 }
     ensures { result ≡ (if byte == 10 then 0 else column + 1) }
@@ -183,7 +183,7 @@ fn column_after(column: usize, byte: u8) -> usize
     if byte == b'\n' { 0 } else { column + 1 }
 }
 
-// The bytes of a symbol.
+/// The bytes of a symbol.
 fn symbol_text(symbols: &Symbols, number: u32) -> &[u8]
     ensures { result.now ≡ unwrap_or (slice_get symbols.now number) [] }
 {

@@ -5,7 +5,8 @@ ghost use Rattle.std.specs.Prelude.{◌≡◌, ◌+◌, ◌^◌, ◌<◌, ◌≤
 ghost use Rattle.std.specs.String.{string_bytes};
 ghost use Rattle.rule_base.specs.Sound.{IsSound};
 ghost use Rattle.rule_base.specs.Thin.{is_thin};
-ghost use Rattle.ops_command.specs.Words.{IsBudget};
+ghost use Rattle.ops_command.specs.Call.{files_between};
+ghost use Rattle.rule_base.specs.Ending.{IsBudget};
 ghost use Rattle.ops_command.specs.Asking.{asked_of};
 ghost use Rattle.ops_command.specs.Account.{refusal, account_of, IsRefusal};
 ghost use Rattle.ops_command.specs.FileBytes.{most_bytes};
@@ -36,7 +37,7 @@ pub fn plan_words<F: Shelf>(
 ) -> Result<Plan, OutOfMemory>
     ensures { IfOk result (λ plan. IsSaidOfWords
         (map string_bytes words.now)
-        (record { told = F.told shelf.old; faults = F.faults shelf.old; faults_after = F.faults shelf.new })
+        (files_between F.told F.faults shelf.old shelf.new)
         (account_of plan)) }
 {
     match run_words(alloc, words, shelf) {
@@ -46,7 +47,7 @@ pub fn plan_words<F: Shelf>(
     }
 }
 
-// Nothing runs, and a line says why.
+/// Nothing runs, and a line says why.
 fn refusal(alloc: Global, status: Status) -> Result<Plan, OutOfMemory>
     ensures { IfOk result (λ plan. account_of plan ≡ refusal status) }
 {
@@ -57,15 +58,15 @@ fn refusal(alloc: Global, status: Status) -> Result<Plan, OutOfMemory>
     })
 }
 
-// The run that the words ask for, or the status under which nothing runs.
+/// The run that the words ask for, or the status under which nothing runs.
 fn run_words<F: Shelf>(alloc: Global, words: &[String], shelf: &mut F) -> Result<Plan, Status>
     ensures ran { IfOk result (λ plan. IsSaidOfWords
         (map string_bytes words.now)
-        (record { told = F.told shelf.old; faults = F.faults shelf.old; faults_after = F.faults shelf.new })
+        (files_between F.told F.faults shelf.old shelf.new)
         (account_of plan)) }
     ensures refused { IfErr result (IsRefusal (IsSaidOfWords
         (map string_bytes words.now)
-        (record { told = F.told shelf.old; faults = F.faults shelf.old; faults_after = F.faults shelf.new }))) }
+        (files_between F.told F.faults shelf.old shelf.new))) }
 {
     match requested(words) {
         Ok(request) => run_request(alloc, shelf, &request),
@@ -73,7 +74,7 @@ fn run_words<F: Shelf>(alloc: Global, words: &[String], shelf: &mut F) -> Result
     }
 }
 
-// The run that is asked for.
+/// The run that is asked for.
 fn run_request<F: Shelf>(
     alloc: Global,
     shelf: &mut F,
@@ -81,17 +82,17 @@ fn run_request<F: Shelf>(
 ) -> Result<Plan, Status>
     requires { IsBudget request.now.budget }
     ensures ran { IfOk result (λ plan. IsSaidOf
-        (record { told = F.told shelf.old; faults = F.faults shelf.old; faults_after = F.faults shelf.new })
+        (files_between F.told F.faults shelf.old shelf.new)
         (asked_of request.now) (account_of plan)) }
     ensures refused { IfErr result (IsRefusal (IsSaidOf
-        (record { told = F.told shelf.old; faults = F.faults shelf.old; faults_after = F.faults shelf.new })
+        (files_between F.told F.faults shelf.old shelf.new)
         (asked_of request.now))) }
 {
     let (program, mut symbols) = read_program(alloc, shelf, request.program)?;
     run_program(alloc, shelf, request, program, &mut symbols)
 }
 
-// The run of this program, whose symbols have these names.
+/// The run of this program, whose symbols have these names.
 fn run_program<F: Shelf>(
     alloc: Global,
     shelf: &mut F,
@@ -105,10 +106,10 @@ fn run_program<F: Shelf>(
     requires few_makes { length program.makes < 2 ^ 32 }
     requires few_names { length symbols.old ≤ 1 + most_bytes }
     ensures ran { IfOk result (λ plan. IsSaidOfProgram
-        (record { told = F.told shelf.old; faults = F.faults shelf.old; faults_after = F.faults shelf.new })
+        (files_between F.told F.faults shelf.old shelf.new)
         (asked_of request.now) (record { program = program; names = symbols.old }) (account_of plan)) }
     ensures refused { IfErr result (IsRefusal (IsSaidOfProgram
-        (record { told = F.told shelf.old; faults = F.faults shelf.old; faults_after = F.faults shelf.new })
+        (files_between F.told F.faults shelf.old shelf.new)
         (asked_of request.now) (record { program = program; names = symbols.old }))) }
 {
     let opening = read_opening(alloc, shelf, request.memory, &program, symbols)?;

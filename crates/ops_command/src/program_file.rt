@@ -2,6 +2,7 @@
 
 ghost use Rattle.std.specs.Prelude.{◌≡◌, ◌+◌, ◌^◌, ◌<◌, ◌≤◌, ℕ, List, length, IfOk, IfErr};
 ghost use Rattle.rule_base.specs.Sound.{IsSound};
+ghost use Rattle.ops_command.specs.Call.{files_between};
 ghost use Rattle.ops_command.specs.Account.{IsRefusal};
 ghost use Rattle.ops_command.specs.FileBytes.{most_bytes};
 ghost use Rattle.ops_command.specs.ProgramText.{first_names, Defines, IsFaultyProgram};
@@ -26,7 +27,7 @@ pub fn read_program<F: Shelf>(
     ensures gives { IfOk result
         (λ r. GivesProgram (F.told shelf.old) name.now (record { program = r.0; names = r.1 })) }
     ensures refused { IfErr result (IsRefusal (IsRefusedProgram
-        (record { told = F.told shelf.old; faults = F.faults shelf.old; faults_after = F.faults shelf.new })
+        (files_between F.told F.faults shelf.old shelf.new)
         name.now)) }
     ensures sound { IfOk result (λ r. IsSound r.0) }
     ensures few_makes { IfOk result (λ r. length r.0.makes < 2 ^ 32) }
@@ -42,7 +43,7 @@ pub fn read_program<F: Shelf>(
     Ok((program, symbols))
 }
 
-// The program that these bytes define.
+/// The program that these bytes define.
 fn program_of(alloc: Global, bytes: &[u8], symbols: &mut Symbols) -> Result<Program, Status>
     requires nil { symbols.old ≡ first_names }
     requires short { length bytes.now ≤ most_bytes }

@@ -5,7 +5,7 @@ ghost use Rattle.rule_base.specs.Opening.{IsOpening};
 ghost use Rattle.rule_base.specs.Sound.{IsSound, sizes_of};
 ghost use Rattle.rule_base.specs.Thin.{is_thin};
 ghost use Rattle.firing_core.specs.CoreState.{choices_of};
-ghost use Rattle.ops_command.specs.Words.{IsBudget};
+ghost use Rattle.rule_base.specs.Ending.{IsBudget};
 ghost use Rattle.ops_command.specs.Findings.{findings_of, of_run};
 ghost use Rattle.ops_command.specs.Account.{account_of};
 ghost use Rattle.ops_command.specs.RunReport.{run_report};
@@ -15,7 +15,7 @@ use crate::plan::Plan;
 use crate::run_report::run_report;
 use crate::status::{Report, Status};
 use firing_core::{Core, Finished, run_alone};
-use ops_text::{OutOfMemory, Sequence, Symbols};
+use ops_text::{OutOfMemory, Sequence, Symbols, copied};
 use rule_base::{Choice, Element, Ending, Entry, Program};
 use std::alloc::Global;
 use std::sync::Arc;
@@ -47,7 +47,7 @@ pub fn plan_run(
     }
 }
 
-// The report of a finished run, and its text, in which the word says how it ended.
+/// The report of a finished run, and its text, in which the word says how it ended.
 fn plan_report(
     alloc: Global,
     core: &Core,
@@ -60,19 +60,17 @@ fn plan_report(
     ensures text { IfOk result
         (λ plan. plan.text.items ≡ run_report symbols.now word.now core.now.state) }
 {
-    let memory = core.memory();
-    let entries = core.entries();
-    let text = run_report(alloc, symbols, word, entries, memory, core.next())?;
+    let text = run_report(alloc, symbols, word, core)?;
     let report = Report {
         status,
-        choices: choices_of(alloc, entries)?,
-        memory: copied(alloc, memory)?,
+        choices: choices_of(alloc, core.entries())?,
+        memory: Sequence::from_vec(copied(alloc, core.memory())?),
         next: core.next(),
     };
     Ok(Plan { report, text })
 }
 
-// The choices that fired, in order.
+/// The choices that fired, in order.
 fn choices_of(alloc: Global, entries: &[Entry]) -> Result<Sequence<Choice>, OutOfMemory>
     ensures { IfOk result (λ choices. choices ≡ choices_of entries.now) }
 {
@@ -81,15 +79,4 @@ fn choices_of(alloc: Global, entries: &[Entry]) -> Result<Sequence<Choice>, OutO
         choices.push(entry.choice.copy(alloc)?)?;
     }
     Ok(choices)
-}
-
-// Elements equal to these.
-fn copied(alloc: Global, elements: &[Element]) -> Result<Sequence<Element>, OutOfMemory>
-    ensures { IfOk result (λ copies. copies ≡ elements.now) }
-{
-    let mut copies = Sequence::new(alloc);
-    for element in elements {
-        copies.push(element.copy(alloc)?)?;
-    }
-    Ok(copies)
 }

@@ -1,12 +1,12 @@
 //! The report of a run: what its rules wrote, and a line about how it ended.
 
-ghost use Rattle.std.specs.Prelude.{◌≡◌, ◌++◌, length, decimal, OnOk, IfOk};
-ghost use Rattle.ops_command.specs.RunReport.{ends_line, whole_lines, written_text, summary_line};
+ghost use Rattle.std.specs.Prelude.{◌≡◌, ◌++◌, decimal, OnOk, IfOk};
+ghost use Rattle.ops_command.specs.RunReport.{ends_line, whole_lines, summary_line, run_report};
 
 use crate::page::lay_out;
+use firing_core::Core;
 use itoa::Buffer;
 use ops_text::{OutOfMemory, Symbols};
-use rule_base::{Element, Entry};
 use std::alloc::Global;
 
 /// Appends a number in decimal.
@@ -17,7 +17,7 @@ pub fn put_decimal(number: u64, text: &mut Vec<u8>) -> Result<(), OutOfMemory>
     text.extend_from_slice(buffer.format(number).as_bytes())
 }
 
-// Ends the last line of a text.
+/// Ends the last line of a text.
 fn end_line(text: &mut Vec<u8>) -> Result<(), OutOfMemory>
     ensures { OnOk result (text.new.items ≡ whole_lines text.old.items) }
 {
@@ -57,21 +57,20 @@ fn summary_line(
     Ok(line)
 }
 
-/// The report of a run with these entries, this memory and this next tag. The word says how it ended.
+/// The report of the run that a core has come to. The word says how it ended.
 pub fn run_report(
     alloc: Global,
     symbols: &Symbols,
     word: &str,
-    entries: &[Entry],
-    memory: &[Element],
-    next: u64,
+    core: &Core,
 ) -> Result<Vec<u8>, OutOfMemory>
-    ensures { IfOk result
-        (λ text. text.items ≡ whole_lines (written_text symbols.now entries.now) ++ summary_line word.now (length entries.now) (length memory.now) next) }
+    ensures { IfOk result (λ text. text.items ≡ run_report symbols.now word.now core.now.state) }
 {
-    let mut text = lay_out(alloc, entries, symbols)?;
+    let firings = core.entries().len() as u64;
+    let elements = core.memory().len() as u64;
+    let mut text = lay_out(alloc, core.entries(), symbols)?;
     end_line(&mut text)?;
-    let line = summary_line(alloc, word, entries.len() as u64, memory.len() as u64, next)?;
+    let line = summary_line(alloc, word, firings, elements, core.next())?;
     text.extend_from_slice(&line)?;
     Ok(text)
 }

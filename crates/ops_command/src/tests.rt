@@ -22,6 +22,29 @@ const MOVES_TWO: &str =
 const HAS_A_BLOCKER: &str =
     "(literalize a x)(literalize b x)(make a ^x 1)(make b ^x 1)(p r (a ^x <v>) -(b ^x <v>) --> (remove 1))";
 
+/// Two rules of which each makes what keeps the other from firing.
+const FIRES_ONE_OF_TWO: &str =
+    "(literalize s n)(literalize l n)(literalize r n)(make s ^n 1)(p left (s ^n 1) -(r) --> (make l))(p right (s ^n 1) -(l) --> (make r))";
+
+/// What the first firing makes keeps the second from happening.
+const FIRES_ONCE_A_KEY: &str =
+    "(literalize item key)(literalize done key)(make item ^key 7)(make item ^key 7)(p once (item ^key <k>) -(done ^key <k>) --> (make done ^key <k>))";
+
+/// An empty disjunction, a conjunction with orders, and a test of the type.
+const TESTS_FOUR_VALUES: &str =
+    "(literalize a x)(make a ^x 4)(make a ^x 5)(make a ^x 9)(make a ^x red)(p none (a ^x << >>) --> (write none))(p mid (a ^x { <v> > 0 < 9 <> 5 }) --> (write <v>))(p same (a ^x { <v> <=> blue }) --> (remove 1))";
+
+/// The negated condition element has a variable of its own, which what stands to its right doesn't bind.
+const BINDS_BEHIND_A_NEGATION: &str =
+    "(literalize a x)(literalize b y)(make a ^x 1)(make b ^y 2)(p r (a) -(b ^y <v>) (a ^x <v>) --> (write fired))";
+
+/// A variable is bound behind `=` too.
+const BINDS_BEHIND_EQUAL: &str = "(literalize a x)(make a ^x 7)(p r (a ^x = <v>) --> (write <v>))";
+
+/// Both tests of an attribute must hold, and a symbol passes neither.
+const TESTS_AN_ATTRIBUTE_TWICE: &str =
+    "(literalize a x)(make a ^x 4)(make a ^x 9)(make a ^x red)(p r (a ^x > 3 ^x < 9) --> (write low))";
+
 /// Each firing leads to another.
 const GOES_ON: &str = "(literalize a x)(make a)(p r (a) --> (make a))";
 
@@ -86,6 +109,24 @@ fn a_program_decides_what_is_printed(rt: HostRuntime) -> Result<(), Fail> {
             "moved it 1 moved it two\n; quiet, firings 2, elements 2, next 5\n",
         ),
         (HAS_A_BLOCKER, "; quiet, firings 0, elements 2, next 3\n"),
+        (FIRES_ONE_OF_TWO, "; quiet, firings 1, elements 2, next 3\n"),
+        (FIRES_ONCE_A_KEY, "; quiet, firings 1, elements 3, next 4\n"),
+        (
+            TESTS_FOUR_VALUES,
+            "4\n; quiet, firings 2, elements 3, next 5\n",
+        ),
+        (
+            BINDS_BEHIND_A_NEGATION,
+            "; quiet, firings 0, elements 2, next 3\n",
+        ),
+        (
+            BINDS_BEHIND_EQUAL,
+            "7\n; quiet, firings 1, elements 1, next 2\n",
+        ),
+        (
+            TESTS_AN_ATTRIBUTE_TWICE,
+            "low\n; quiet, firings 1, elements 3, next 4\n",
+        ),
     ];
     for (text, printed) in rows {
         let (report, held) = call(rt.alloc(), &["run", "p"], text.as_bytes(), b"")?;

@@ -15,14 +15,14 @@ pub fn unbuilt_form(forms: &Forms, program: &Program) -> Option<u32>
     rule_form(forms.as_slice(), rule)
 }
 
-// The number of the first rule that isn't thin.
+/// The number of the first rule that isn't thin.
 fn first_unbuilt(rules: &[Rule]) -> Option<usize>
     ensures { result ≡ first_unbuilt rules.now }
 {
     rules.iter().position(|rule| !is_thin_rule(rule))
 }
 
-// The number of the form of a rule.
+/// The number of the form of a rule.
 fn rule_form(forms: &[Form], rule: usize) -> Option<u32>
     requires { length forms.now < 2 ^ 32 }
     ensures { result ≡ slice_get (rule_forms 1 forms.now) rule }

@@ -4,7 +4,8 @@ ghost use Rattle.std.specs.Prelude.{◌≡◌, Ok, Err, map, IfOk, IfErr, IfSome
 ghost use Rattle.std.specs.Option.{option_copied};
 ghost use Rattle.std.specs.Str.{all_ascii_digits};
 ghost use Rattle.std.specs.String.{string_bytes};
-ghost use Rattle.ops_command.specs.Words.{is_short_numeral, short_number, budget_of, budget_asked, IsBudget, names_file, asked_with, asked_behind, asked_by};
+ghost use Rattle.rule_base.specs.Ending.{IsBudget};
+ghost use Rattle.ops_command.specs.Words.{is_short_numeral, short_number, budget_of, budget_asked, names_file, asked_with, asked_behind, asked_by};
 ghost use Rattle.ops_command.specs.Asking.{asked_of};
 
 use crate::status::UsageKind;
@@ -39,10 +40,12 @@ pub fn requested(words: &[String]) -> Result<Request<'_>, UsageKind>
     }
 }
 
-// What is asked for with this program file and these words behind it.
+/// What is asked for with this program file and these words behind it.
 fn requested_behind<'a>(program: &'a str, rest: &'a [String]) -> Result<Request<'a>, UsageKind>
-    ensures asks { IfOk result (λ r. asked_behind program.now (map string_bytes rest.now) ≡ Ok (asked_of r)) }
-    ensures faulty { IfErr result (λ kind. asked_behind program.now (map string_bytes rest.now) ≡ Err kind) }
+    ensures asks { IfOk result
+        (λ r. asked_behind program.now (map string_bytes rest.now) ≡ Ok (asked_of r)) }
+    ensures faulty { IfErr result
+        (λ kind. asked_behind program.now (map string_bytes rest.now) ≡ Err kind) }
     ensures budget { IfOk result (λ r. IsBudget r.budget) }
 {
     match rest {
@@ -53,14 +56,18 @@ fn requested_behind<'a>(program: &'a str, rest: &'a [String]) -> Result<Request<
     }
 }
 
-// What is asked for with these files and these words behind them.
+/// What is asked for with these files and these words behind them.
 fn requested_with<'a>(
     program: &'a str,
     memory: Option<&'a str>,
     rest: &[String],
 ) -> Result<Request<'a>, UsageKind>
-    ensures asks { IfOk result (λ r. asked_with program.now (option_copied memory.entry) (map string_bytes rest.now) ≡ Ok (asked_of r)) }
-    ensures faulty { IfErr result (λ kind. asked_with program.now (option_copied memory.entry) (map string_bytes rest.now) ≡ Err kind) }
+    ensures asks { IfOk result (λ r.
+        asked_with program.now (option_copied memory.entry) (map string_bytes rest.now)
+        ≡ Ok (asked_of r)) }
+    ensures faulty { IfErr result (λ kind.
+        asked_with program.now (option_copied memory.entry) (map string_bytes rest.now)
+        ≡ Err kind) }
     ensures budget { IfOk result (λ r. IsBudget r.budget) }
 {
     match budget_asked(rest) {
@@ -73,7 +80,7 @@ fn requested_with<'a>(
     }
 }
 
-// The budget that the words behind the files ask for.
+/// The budget that the words behind the files ask for.
 fn budget_asked(rest: &[String]) -> Result<u64, UsageKind>
     ensures asked { result ≡ budget_asked (map string_bytes rest.now) }
     ensures budget { IfOk result IsBudget }
@@ -88,14 +95,14 @@ fn budget_asked(rest: &[String]) -> Result<u64, UsageKind>
     }
 }
 
-// Whether a word may name a file.
+/// Whether a word may name a file.
 fn names_file(word: &str) -> bool
     ensures { result ≡ names_file word.now }
 {
     !word.starts_with('-')
 }
 
-// The budget that a word stands for.
+/// The budget that a word stands for.
 fn budget_of(word: &str) -> Option<u64>
     ensures value { result ≡ budget_of word.now }
     ensures budget { IfSome result IsBudget }
@@ -106,7 +113,7 @@ fn budget_of(word: &str) -> Option<u64>
     }
 }
 
-// The number that one to seven digits write.
+/// The number that one to seven digits write.
 fn short_number(word: &str) -> Option<u64>
     ensures { result ≡ short_number word.now }
 {
@@ -117,7 +124,7 @@ fn short_number(word: &str) -> Option<u64>
     }
 }
 
-// Whether a word is one to seven digits.
+/// Whether a word is one to seven digits.
 fn is_short_numeral(word: &[u8]) -> bool
     ensures { result ≡ is_short_numeral word.now }
 {

@@ -1,8 +1,8 @@
 -- What is said of the program is said of what was asked for.
-use Rattle.std.proofs.Common.{ℕ, List, refl}
+use Rattle.std.proofs.Common.{refl}
 use Rattle.ops_command.specs.Call.{Files}
 use Rattle.ops_command.specs.Asking.{asked_of}
-use Rattle.ops_command.specs.Account.{account_of, refusal}
+use Rattle.ops_command.specs.Account.{account_of}
 use Rattle.ops_command.specs.ProgramText.{NamedProgram}
 use Rattle.ops_command.proofs.ResultLemmas.{IfOk-map, IfErr-map}
 use Rattle.ops_command.proofs.FaultLemmas.{IsRefusal-map}

@@ -1,10 +1,10 @@
 -- Forms that are read are those of the text, and the first rule that isn't thin has one of them.
-use Rattle.std.proofs.Common.{◌≡◌, Some, length, inl, inr, refl, sym, ap, ◌∙◌, subst, arith}
+use Rattle.std.proofs.Common.{length, inr, refl, sym, ap, ◌∙◌, subst, arith}
 use Rattle.ops_text.specs.Names.{Names}
 use Rattle.ops_reader.specs.Tokens.{tokens_of}
 use Rattle.ops_reader.specs.Grammar.{IsText}
 use Rattle.ops_command.specs.ProgramText.{first_names}
-use Rattle.ops_command.proofs.UnbuiltLemmas.{checked-makes, unbuilt_form-None, unbuilt_form-within}
+use Rattle.ops_command.proofs.UnbuiltLemmas.{unbuilt_form-None, unbuilt_form-within}
 use Rattle.ops_command.proofs.program_file.program_of.Goals as goal
 
 pub form_place-requires : goal.form_place-requires
@@ -43,4 +43,4 @@ returns-clause-defines c = record {
 }
 
 pub returns-clause-few_makes : goal.returns-clause-few_makes
-returns-clause-few_makes c = omega (arith, checked-makes c.in_ok-forms.forms c.in-Ok.program c.in-Ok.ensures.ok, ap length c.forms.view_is, c.forms.invariant.few)
+returns-clause-few_makes c = omega (arith, c.in-Ok.ensures.makes, ap length c.forms.view_is, c.forms.invariant.few)
