@@ -1,7 +1,10 @@
 -- The exit status of the program.
-use Rattle.std.specs.Prelude.{ℕ}
+use Rattle.std.specs.Prelude.{◌≡◌, ℕ}
+use Rattle.ops_command.specs.declared.status.Report.{Report}
 use Rattle.ops_command.specs.declared.status.Status.{Status}
 use Rattle.ops_command.specs.declared.status.Status.TheVariants.{Quiet, Usage, Spent, ReadFault, WriteFault, TooLong, Syntax, Check, NotBuilt, OutOfMemory}
+use Rattle.ops_command.specs.Call.{Call}
+use Rattle.ops_command.specs.Promise.{KeepsPromise}
 
 -- the number by which the program tells how a call ended
 abbrev pub exit_number : Status → ℕ
@@ -15,3 +18,9 @@ exit_number (Check file form kind) = 8
 exit_number (TooLong file) = 9
 exit_number OutOfMemory = 10
 exit_number (NotBuilt at) = 12
+
+-- the promise to the call is kept by a report, whose status has this number
+pub record EndsWith (call : Call) (number : ℕ) : Type 0 where
+  pub report : Report
+  pub kept : KeepsPromise call report
+  pub numbered : number ≡ exit_number report.status

@@ -2,11 +2,14 @@
 //! ends with the number of the status.
 #![tactic(auto)]
 
-ghost use Rattle.std.specs.Prelude.{◌≡◌};
-ghost use Rattle.ops.specs.Exit.{exit_number};
+ghost use Rattle.std.specs.Prelude.{◌≡◌, map};
+ghost use Rattle.std.specs.String.{string_bytes};
+ghost use Rattle.ops_command.specs.Call.{files_between, output_between};
+ghost use Rattle.ops.specs.Exit.{exit_number, EndsWith};
 
 use ops_command::{Status, run_without_threads};
-use ops_text::{FileShelf, OutSink};
+use ops_text::{FileShelf, OutSink, Shelf, Sink};
+use std::alloc::Global;
 use std::process::ExitCode;
 use std::{env, io};
 
@@ -27,8 +30,8 @@ fn exit_number(status: Status) -> u8
     }
 }
 
-// The words after the program's name. None of them are a faulty command line, and so stand for words
-// that aren't UTF-8.
+/// The words after the program's name. None of them are a faulty command line, and so stand for words
+/// that aren't UTF-8.
 fn words_after_name(rt: &HostRuntime) -> io::Result<Vec<String>> {
     match env::args(rt) {
         Ok(args) => Ok(args.skip(1).collect(rt.alloc())?),
@@ -37,12 +40,24 @@ fn words_after_name(rt: &HostRuntime) -> io::Result<Vec<String>> {
     }
 }
 
+/// Does what the words ask for, and tells the number of the status.
+fn exit_of<F: Shelf, K: Sink>(alloc: Global, words: &[String], shelf: &mut F, out: &mut K) -> u8
+    ensures { EndsWith
+        (record {
+          words = map string_bytes words.now;
+          files = files_between F.told F.faults shelf.old shelf.new;
+          output = output_between K.told K.faults out.old out.new;
+        })
+        result }
+{
+    exit_number(run_without_threads(alloc, words, shelf, out).status)
+}
+
 fn main(rt: HostRuntime) -> ExitCode {
     let Ok(words) = words_after_name(&rt) else {
         return ExitCode::from(exit_number(Status::OutOfMemory));
     };
     let mut shelf = FileShelf::new(&rt);
     let mut out = OutSink::new(io::writer(&rt));
-    let report = run_without_threads(rt.alloc(), &words, &mut shelf, &mut out);
-    ExitCode::from(exit_number(report.status))
+    ExitCode::from(exit_of(rt.alloc(), &words, &mut shelf, &mut out))
 }
