@@ -10,6 +10,3 @@ mod predicate;
 pub use acceptance::{accepts, unbind};
 pub use binds::Binds;
 pub use predicate::holds;
-
-#[cfg(test)]
-mod tests;

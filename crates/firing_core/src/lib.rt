@@ -12,6 +12,3 @@ mod planning;
 
 pub use finishing::{Finished, finish, run_alone};
 pub use machine::Core;
-
-#[cfg(test)]
-mod tests;

@@ -17,6 +17,3 @@ pub use shelf::{FileShelf, MemShelf, ReadRefusal, Shelf, ShelfFailed, SureShelf,
 pub use sink::{MemSink, OutSink, Sink, SinkFailed, SureSink, WriteFault, write_all};
 pub use std::alloc::AllocError as OutOfMemory;
 pub use symbols::Symbols;
-
-#[cfg(test)]
-mod tests;

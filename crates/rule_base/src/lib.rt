@@ -16,8 +16,6 @@ pub mod laws;
 mod lock;
 mod program;
 mod steps;
-#[cfg(test)]
-mod tests;
 mod value;
 
 pub use action::{Action, Item, Term};

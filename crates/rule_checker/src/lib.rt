@@ -16,8 +16,6 @@ mod right_side;
 mod rules;
 mod scope;
 mod terms;
-#[cfg(test)]
-mod tests;
 
 pub use checking::check;
 pub use loading::load;

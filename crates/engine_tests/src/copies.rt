@@ -1,10 +1,10 @@
 //! Copies are made where there is memory.
 
-use crate::{
+use ops_text::Sequence;
+use rule_base::{
     Action, Candidate, Change, Choice, Class, Cond, Element, Entry, Expr, Item, Op, Operand,
     Program, Rule, Tagged, Term, Test,
 };
-use ops_text::Sequence;
 use sqlite_items::Items;
 use std::alloc::Global;
 use std::test::Fail;

@@ -1,0 +1,196 @@
+//! What a report holds: its status, and the choices, the memory and the next tag of its run.
+
+use crate::setting::call;
+use ops_command::{CheckKind, FileKind, Report, Status, SyntaxKind, UsageKind};
+use ops_text::OutOfMemory;
+use std::alloc::Global;
+use std::test::Fail;
+
+/// The words, the program and the memory file of a call, and its status and its text.
+type Row = (
+    &'static [&'static str],
+    &'static str,
+    &'static str,
+    Status,
+    &'static str,
+);
+
+#[test]
+fn a_call_has_the_status_that_it_tells(rt: HostRuntime) -> Result<(), Fail> {
+    let (program, memory) = (FileKind::Program, FileKind::Memory);
+    let rows: [Row; 12] = [
+        (
+            &["run", "p", "m"],
+            "(literalize a x)(make a ^x 1)(p hi (a) --> (write hello))",
+            "(make a ^x 2)",
+            Status::Quiet,
+            "hello hello\n; quiet, firings 2, elements 2, next 3\n",
+        ),
+        (
+            &["run", "p", "--firings", "3"],
+            "(literalize a x)(make a)(p r (a) --> (make a))",
+            "",
+            Status::Spent { n: 3 },
+            "; spent, firings 3, elements 4, next 5\n",
+        ),
+        (
+            &["run"],
+            "",
+            "",
+            Status::Usage {
+                kind: UsageKind::Words,
+            },
+            "ops: usage: words\n",
+        ),
+        (
+            &["run", "p", "--firings", ""],
+            "",
+            "",
+            Status::Usage {
+                kind: UsageKind::Number,
+            },
+            "ops: usage: number\n",
+        ),
+        (
+            &["run", "q", "m"],
+            "",
+            "",
+            Status::ReadFault { file: program },
+            "ops: cannot read program\n",
+        ),
+        (
+            &["run", "p", "q"],
+            "",
+            "",
+            Status::ReadFault { file: memory },
+            "ops: cannot read memory\n",
+        ),
+        (
+            &["run", "p"],
+            "(p r (a ^x 1) --> (halt)",
+            "",
+            Status::Syntax {
+                file: program,
+                at: 24,
+                kind: SyntaxKind::Unclosed,
+            },
+            "ops: syntax error in program at byte 24: unclosed\n",
+        ),
+        (
+            &["run", "p", "m"],
+            "(literalize a x)",
+            "(make a) (external f)",
+            Status::Syntax {
+                file: memory,
+                at: 10,
+                kind: SyntaxKind::NotInProfile,
+            },
+            "ops: syntax error in memory at byte 10: not in profile\n",
+        ),
+        (
+            &["run", "p"],
+            "(literalize a x)(p u (a) -(a ^x <w>) --> (write <w>))",
+            "",
+            Status::Check {
+                file: program,
+                form: 2,
+                kind: CheckKind::Unbound,
+            },
+            "ops: check error in program, form 2: unbound\n",
+        ),
+        (
+            &["run", "p", "m"],
+            "(literalize a x)",
+            "(make a)(make a ^y 1)",
+            Status::Check {
+                file: memory,
+                form: 2,
+                kind: CheckKind::UnknownAttribute,
+            },
+            "ops: check error in memory, form 2: unknown attribute\n",
+        ),
+        (
+            &["run", "p"],
+            "(literalize a x)(p r (a ^x 1) --> (halt))",
+            "",
+            Status::NotBuilt { at: 16 },
+            "ops: not built at byte 16\n",
+        ),
+        (
+            &["run", "p", "m"],
+            "",
+            "",
+            Status::Quiet,
+            "; quiet, firings 0, elements 0, next 1\n",
+        ),
+    ];
+    for (texts, program, memory, status, printed) in rows {
+        let (report, held) = call(rt.alloc(), texts, program, memory)?;
+        assert_eq!(rt; report.status, status, "status of {printed}");
+        assert_eq!(rt; held.as_slice(), printed.as_bytes(), "{printed}");
+    }
+    Ok(())
+}
+
+/// The choices of a report, the elements of its memory and its next tag, in a line.
+fn told(alloc: Global, report: &Report) -> Result<String, OutOfMemory> {
+    let mut text = String::new(alloc);
+    for choice in report.choices.as_slice() {
+        let tags = choice.tags.as_slice();
+        text.push_str(&format!(in alloc; "{}{tags:?} ", choice.rule)?)?;
+    }
+    text.push_str("|")?;
+    for element in report.memory.as_slice() {
+        let values = element.values.as_slice();
+        text.push_str(&format!(in alloc; " {}:{}{values:?}", element.tag, element.class)?)?;
+    }
+    text.push_str(&format!(in alloc; " | {}", report.next)?)?;
+    Ok(text)
+}
+
+#[test]
+fn a_report_tells_choices_memory_and_next_tag(rt: HostRuntime) -> Result<(), Fail> {
+    let rows = [
+        ("", "| | 1"),
+        (
+            "(literalize a x)(make a ^x 1)(p hi (a) --> (write hello))",
+            "0[1] | 1:0[Int(1)] | 2",
+        ),
+        // each instantiation fires once
+        (
+            "(literalize a x)(literalize b x)(make a ^x 7)(make a ^x 8)(make b ^x 8)(p r (a ^x <v>) --> (remove 1))",
+            "0[1] 0[2] | 3:1[Int(8)] | 4",
+        ),
+        // two condition elements ask for one value, and one element matches two condition elements
+        (
+            "(literalize a x)(literalize b x)(make a ^x 7)(make a ^x 8)(make b ^x 8)(p r (a ^x <v>) (b ^x <v>) --> (remove 2 1))",
+            "0[2, 3] | 1:0[Int(7)] | 4",
+        ),
+        (
+            "(literalize a x)(make a ^x 7)(p r (a ^x <v>) (a ^x <v>) --> (remove 1 2))",
+            "0[1, 1] | | 2",
+        ),
+        // what is made has the next tags, in the order of the actions
+        (
+            "(literalize a x)(literalize b x)(make a ^x 7)(p r (a ^x <v>) --> (make b ^x <v>) (remove 1 1) (make b))",
+            "0[1] | 2:1[Int(7)] 3:1[Sym(0)] | 4",
+        ),
+        // a negated condition element sees what is bound to its left, and a rule blocks itself by what it makes
+        (
+            "(literalize a x)(literalize b x)(make a ^x 7)(make a ^x 8)(make b ^x 8)(p r (a ^x <v>) -(b ^x <v>) --> (make b ^x <v>))",
+            "0[1] | 1:0[Int(7)] 2:0[Int(8)] 3:1[Int(8)] 4:1[Int(7)] | 5",
+        ),
+        (
+            "(literalize a x)(literalize b x)(make a ^x 7)(make a ^x 7)(p r (a ^x <v>) -(b ^x <v>) --> (make b ^x <v>))",
+            "0[1] | 1:0[Int(7)] 2:0[Int(7)] 3:1[Int(7)] | 4",
+        ),
+        // a refused program leaves nothing
+        ("(make a)", "| | 1"),
+    ];
+    for (program, want) in rows {
+        let (report, _) = call(rt.alloc(), &["run", "p"], program, "")?;
+        let told = told(rt.alloc(), &report)?;
+        assert_eq!(rt; told.as_str(), want, "{program}");
+    }
+    Ok(())
+}
