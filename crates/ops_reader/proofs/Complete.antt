@@ -3,8 +3,8 @@ use Rattle.std.proofs.Common.{◌≡◌, ℕ, true, false, Bool, List, [], ◌�
 use Rattle.std.specs.Option.{option_map}
 use Rattle.ops_text.specs.Names.{Names}
 use Rattle.rule_base.specs.declared.value.Value.{Value}
-use Rattle.ops_reader.specs.declared.token.Keyword.{Keyword}
-use Rattle.ops_reader.specs.declared.token.Keyword.TheVariants as a_keyword
+use Rattle.ops_tokens.specs.declared.token.Keyword.{Keyword}
+use Rattle.ops_tokens.specs.declared.token.Keyword.TheVariants as a_keyword
 use Rattle.ops_reader.specs.declared.form.Form.{Form}
 use Rattle.ops_reader.specs.declared.form.Form.TheVariants as a_form
 use Rattle.ops_reader.specs.declared.form.FormCond.{FormCond}
@@ -17,7 +17,7 @@ use Rattle.ops_reader.specs.declared.part.SetPart.{SetPart}
 use Rattle.ops_reader.specs.declared.part.SetPart.TheVariants as of_set
 use Rattle.ops_reader.specs.declared.part.CondPart.TheVariants as of_cond
 use Rattle.ops_reader.specs.declared.part.ActionPart.TheVariants as of_action
-use Rattle.ops_reader.specs.Token.{Token, Open, Close, Caret, Arrow, Plain}
+use Rattle.ops_tokens.specs.Token.{Token, Open, Close, Caret, Arrow, Plain}
 use Rattle.ops_reader.specs.Grammar.{◌⨾◌, any, the, keyword, up_to, symbol, literal, setting, condition, action, strategy_word, form}
 use Rattle.ops_reader.specs.Taken.{symbol_of, literal_of, number_up_to, grown, around}
 use Rattle.ops_reader.specs.CondReading.{cond_after}

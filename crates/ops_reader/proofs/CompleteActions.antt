@@ -2,8 +2,8 @@
 use Rattle.std.proofs.Common.{◌≡◌, ℕ, List, [], ◌∷◌, ◌++◌, Some, refl, sym, ap}
 use Rattle.std.specs.Option.{option_map}
 use Rattle.ops_text.specs.Names.{Names}
-use Rattle.ops_reader.specs.declared.token.Keyword.{Keyword}
-use Rattle.ops_reader.specs.declared.token.Keyword.TheVariants as a_keyword
+use Rattle.ops_tokens.specs.declared.token.Keyword.{Keyword}
+use Rattle.ops_tokens.specs.declared.token.Keyword.TheVariants as a_keyword
 use Rattle.ops_reader.specs.declared.form.FormAction.{FormAction}
 use Rattle.ops_reader.specs.declared.form.FormAction.TheVariants as an_action
 use Rattle.ops_reader.specs.declared.form.At.{At}
@@ -17,7 +17,7 @@ use Rattle.ops_reader.specs.declared.part.TermSetPart.TheVariants as of_set
 use Rattle.ops_reader.specs.declared.part.ItemPart.TheVariants as of_item
 use Rattle.ops_reader.specs.declared.part.ActionPart.{ActionPart}
 use Rattle.ops_reader.specs.declared.part.ActionPart.TheVariants as of_action
-use Rattle.ops_reader.specs.Token.{Token, Open, Close, Integer, Plain}
+use Rattle.ops_tokens.specs.Token.{Token, Open, Close, Integer, Plain}
 use Rattle.ops_reader.specs.Grammar.{◌⨾◌, any, the, keyword, symbol, variable, setting, term, designator, item, action}
 use Rattle.ops_reader.specs.Taken.{Taken, symbol_of, variable_of, grown, around}
 use Rattle.ops_reader.specs.TermReading.{TermSetsPart, term_after, term_sets_after}

@@ -6,14 +6,14 @@ use Rattle.std.specs.Option.{option_map, option_and_then}
 use Rattle.ops_text.specs.Names.{Names, number_of, with_name}
 use Rattle.rule_base.specs.declared.value.Value.{Value}
 use Rattle.rule_base.specs.declared.value.Value.TheVariants as a_value
-use Rattle.ops_reader.specs.declared.token.Keyword.{Keyword}
+use Rattle.ops_tokens.specs.declared.token.Keyword.{Keyword}
 use Rattle.ops_reader.specs.declared.form.Form.{Form}
 use Rattle.ops_reader.specs.declared.form.FormArg.TheVariants as an_argument
 use Rattle.ops_reader.specs.declared.part.FormPart.{FormPart}
 use Rattle.ops_reader.specs.declared.part.Step.{Step}
 use Rattle.ops_reader.specs.declared.part.Step.TheVariants.{Part, Whole}
-use Rattle.ops_reader.specs.Token.{Token, Variable, Integer, Plain}
-use Rattle.ops_reader.specs.Naming.{symbol_name, constant_name, literal_name, variable_name}
+use Rattle.ops_tokens.specs.Token.{Token, Variable, Integer, Plain}
+use Rattle.ops_tokens.specs.Naming.{symbol_name, constant_name, literal_name, variable_name}
 use Rattle.ops_reader.specs.Grammar.{Phrase, nothing, ◌⨾◌, either, any, the, keyword, up_to, naming, symbol, variable, constant, literal, argument}
 use Rattle.ops_reader.specs.Taken.{Taken, named_of, symbol_of, variable_of, constant_of, literal_of, argument_of, number_up_to, step_around}
 use Rattle.ops_reader.specs.Reading.{Read, next, run}

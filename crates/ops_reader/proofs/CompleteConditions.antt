@@ -10,7 +10,7 @@ use Rattle.ops_reader.specs.declared.part.PatternPart.{PatternPart}
 use Rattle.ops_reader.specs.declared.part.PatternPart.TheVariants as of_pattern
 use Rattle.ops_reader.specs.declared.part.CondPart.{CondPart}
 use Rattle.ops_reader.specs.declared.part.CondPart.TheVariants as of_cond
-use Rattle.ops_reader.specs.Token.{Token, Open, Close, OpenBrace, CloseBrace, Minus, Variable}
+use Rattle.ops_tokens.specs.Token.{Token, Open, Close, OpenBrace, CloseBrace, Minus, Variable}
 use Rattle.ops_reader.specs.Grammar.{◌⨾◌, any, the, symbol, variable, setting, test, signed, condition}
 use Rattle.ops_reader.specs.Taken.{symbol_of, variable_of, grown, around}
 use Rattle.ops_reader.specs.TestReading.{test_after}

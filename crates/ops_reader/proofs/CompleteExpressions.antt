@@ -7,7 +7,7 @@ use Rattle.rule_base.specs.declared.expression.Op.{Op}
 use Rattle.rule_base.specs.declared.expression.Op.TheVariants as op
 use Rattle.rule_base.specs.Expression.{Tree, single, joined, Leaf, number, parentheses}
 use Rattle.rule_base.specs.Expression as tree
-use Rattle.ops_reader.specs.declared.token.Keyword.TheVariants as a_keyword
+use Rattle.ops_tokens.specs.declared.token.Keyword.TheVariants as a_keyword
 use Rattle.ops_reader.specs.declared.form.FormExpr.{FormExpr, roll-FormExpr}
 use Rattle.ops_reader.specs.declared.form.FormOperand.{roll-FormOperand}
 use Rattle.ops_reader.specs.declared.form.FormOperand.TheOpen as an_operand
@@ -16,7 +16,7 @@ use Rattle.ops_reader.specs.declared.part.ExprPart.{ExprPart}
 use Rattle.ops_reader.specs.declared.part.Before.{Before}
 use Rattle.ops_reader.specs.declared.part.Before.TheVariants as of_before
 use Rattle.ops_reader.specs.declared.part.Inner.TheVariants as of_inner
-use Rattle.ops_reader.specs.Token.{Token, Open, Close, Minus, Slashes, Variable, Integer, Plain}
+use Rattle.ops_tokens.specs.Token.{Token, Open, Close, Minus, Slashes, Variable, Integer, Plain}
 use Rattle.ops_reader.specs.FormTree.{form_tree}
 use Rattle.ops_reader.specs.Grammar.{◌⨾◌, the, variable, operator, expression, operand}
 use Rattle.ops_reader.specs.Taken.{variable_of}

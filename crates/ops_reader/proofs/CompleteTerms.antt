@@ -3,7 +3,7 @@ use Rattle.std.proofs.Common.{◌≡◌, ℕ, List, [], ◌∷◌, ◌++◌, Som
 use Rattle.std.specs.Option.{option_map}
 use Rattle.ops_text.specs.Names.{Names}
 use Rattle.rule_base.specs.declared.value.Value.{Value}
-use Rattle.ops_reader.specs.declared.token.Keyword.TheVariants as a_keyword
+use Rattle.ops_tokens.specs.declared.token.Keyword.TheVariants as a_keyword
 use Rattle.ops_reader.specs.declared.form.FormExpr.{FormExpr}
 use Rattle.ops_reader.specs.declared.form.FormTerm.{FormTerm}
 use Rattle.ops_reader.specs.declared.form.FormTerm.TheVariants as a_term
@@ -19,7 +19,7 @@ use Rattle.ops_reader.specs.declared.part.TermSetPart.TheVariants as of_set
 use Rattle.ops_reader.specs.declared.part.ItemPart.{ItemPart}
 use Rattle.ops_reader.specs.declared.part.ItemPart.TheVariants as of_item
 use Rattle.ops_reader.specs.FormTree.{form_tree}
-use Rattle.ops_reader.specs.Token.{Token, Open, Close, Caret, Variable, Plain}
+use Rattle.ops_tokens.specs.Token.{Token, Open, Close, Caret, Variable, Plain}
 use Rattle.ops_reader.specs.Grammar.{Phrase, never, ◌⨾◌, any, the, keyword, up_to, symbol, variable, literal, setting, expression, term, item}
 use Rattle.ops_reader.specs.Taken.{symbol_of, variable_of, literal_of, number_up_to, grown, made, around}
 use Rattle.ops_reader.specs.ExpressionReading.{expression_after}

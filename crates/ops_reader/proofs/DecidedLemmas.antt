@@ -5,16 +5,16 @@ use Rattle.ops_reader.specs.declared.form.Form.{Form}
 use Rattle.ops_reader.specs.declared.part.FormPart.{FormPart}
 use Rattle.ops_reader.specs.declared.part.FormPart.TheVariants as of_form
 use Rattle.ops_reader.specs.declared.refusal.SyntaxKind.TheVariants.{Unclosed}
-use Rattle.ops_reader.specs.Token.{Token}
-use Rattle.ops_reader.specs.Tokens.{Between, after, tokens_of}
-use Rattle.ops_reader.specs.Places.{lefts_of}
+use Rattle.ops_tokens.specs.Token.{Token}
+use Rattle.ops_tokens.specs.Tokens.{Between, after, tokens_of}
+use Rattle.ops_tokens.specs.Places.{lefts_of}
 use Rattle.ops_reader.specs.Reading.{Read, start, next, run}
 use Rattle.ops_reader.specs.Slot.{form_slot}
 use Rattle.ops_reader.specs.Kind.{kind_at}
 use Rattle.ops_reader.specs.Decided.{SpellsForms, IsRefusedSomewhere, IsDecided}
 use Rattle.ops_reader.proofs.CompleteBasics.{at}
 use Rattle.ops_reader.proofs.ExactLemmas.{done_is_text}
-use Rattle.ops_reader.proofs.PlaceLemmas.{as_many}
+use Rattle.ops_tokens.proofs.PlaceLemmas.{as_many}
 use Rattle.ops_reader.proofs.OneRefusal.{not_both, one_refusal}
 use Rattle.ops_reader.proofs.Reached.{HasReached, reached_nothing, reached_more, reached_end, wrong_token, ends_early}
 

@@ -11,7 +11,7 @@ use Rattle.ops_reader.specs.declared.form.FormTerm.TheVariants as a_term
 use Rattle.ops_reader.specs.declared.form.FormItem.{FormItem}
 use Rattle.ops_reader.specs.declared.form.FormItem.TheVariants as an_item
 use Rattle.ops_reader.specs.FormTree.{form_tree}
-use Rattle.ops_reader.specs.Token.{Token}
+use Rattle.ops_tokens.specs.Token.{Token}
 use Rattle.ops_reader.specs.Grammar.{Phrase, any, setting, expression, operand, term, item, action}
 use Rattle.ops_reader.specs.Shape.{IsShallow, IsShallowSet, IsShallowItem, IsAction}
 

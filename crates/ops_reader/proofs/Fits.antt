@@ -2,13 +2,13 @@
 use Rattle.std.proofs.Common.{◌≡◌, ◌⊎◌, inl, inr, ℕ, pos, Bool, true, false, ◌&&◌, List, [], Some, None, ℤ, refl, sym, ap, ◌∙◌, subst}
 use Rattle.std.specs.Option.{is_some}
 use Rattle.ops_text.specs.Names.{Names}
-use Rattle.ops_reader.specs.declared.token.Keyword.{Keyword}
-use Rattle.ops_reader.specs.declared.token.Keyword.TheVariants as a_keyword
+use Rattle.ops_tokens.specs.declared.token.Keyword.{Keyword}
+use Rattle.ops_tokens.specs.declared.token.Keyword.TheVariants as a_keyword
 use Rattle.ops_reader.specs.declared.part.Step.{Step}
 use Rattle.ops_reader.specs.declared.part.Step.TheVariants.{Part, Whole}
 use Rattle.ops_reader.specs.declared.slot.Slot.{Slot}
 use Rattle.ops_reader.specs.declared.slot.Slot.TheVariants as slot
-use Rattle.ops_reader.specs.Token.{Token, Open, Variable, Integer, Plain, Barred}
+use Rattle.ops_tokens.specs.Token.{Token, Open, Variable, Integer, Plain, Barred}
 use Rattle.ops_reader.specs.Taken.{Taken, around}
 
 -- what one more token makes of a part

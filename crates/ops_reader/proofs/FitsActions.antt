@@ -1,7 +1,7 @@
 -- What the slots of the parts of an action say of the tokens that may come next.
 use Rattle.std.proofs.Common.{◌≡◌, inl, inr, ℕ, List, [], ◌∷◌, ◌++◌, refl}
 use Rattle.ops_text.specs.Names.{Names}
-use Rattle.ops_reader.specs.declared.token.Keyword.TheVariants as a_keyword
+use Rattle.ops_tokens.specs.declared.token.Keyword.TheVariants as a_keyword
 use Rattle.ops_reader.specs.declared.form.FormTerm.{FormTerm}
 use Rattle.ops_reader.specs.declared.form.FormTerm.TheVariants as a_term
 use Rattle.ops_reader.specs.declared.form.FormItem.{FormItem}
@@ -18,7 +18,7 @@ use Rattle.ops_reader.specs.declared.part.ItemPart.TheVariants as of_item
 use Rattle.ops_reader.specs.declared.part.ActionPart.{ActionPart}
 use Rattle.ops_reader.specs.declared.part.ActionPart.TheVariants as of_action
 use Rattle.ops_reader.specs.declared.slot.Slot.{Slot}
-use Rattle.ops_reader.specs.Token.{Token, Close}
+use Rattle.ops_tokens.specs.Token.{Token, Close}
 use Rattle.ops_reader.specs.Taken.{around}
 use Rattle.ops_reader.specs.ExpressionReading.{expression_after}
 use Rattle.ops_reader.specs.TermReading.{TermSetsPart, term_after, term_set_after, term_sets_after}

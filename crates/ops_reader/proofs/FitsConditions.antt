@@ -13,7 +13,7 @@ use Rattle.ops_reader.specs.declared.part.CondPart.{CondPart}
 use Rattle.ops_reader.specs.declared.part.CondPart.TheVariants as of_cond
 use Rattle.ops_reader.specs.declared.slot.Slot.{Slot}
 use Rattle.ops_reader.specs.declared.slot.Slot.TheVariants as slot
-use Rattle.ops_reader.specs.Token.{Token, Close, OpenBrace, CloseBrace}
+use Rattle.ops_tokens.specs.Token.{Token, Close, OpenBrace, CloseBrace}
 use Rattle.ops_reader.specs.Taken.{around}
 use Rattle.ops_reader.specs.TestReading.{simple_after, with_simple, test_after}
 use Rattle.ops_reader.specs.CondReading.{with_test, pattern_after, condition_of, cond_after}

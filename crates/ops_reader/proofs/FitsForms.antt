@@ -1,7 +1,7 @@
 -- What the slots of the parts of a form say of the tokens that may come next.
 use Rattle.std.proofs.Common.{◌≡◌, inl, inr, ℕ, List, refl}
 use Rattle.ops_text.specs.Names.{Names}
-use Rattle.ops_reader.specs.declared.token.Keyword.TheVariants as a_keyword
+use Rattle.ops_tokens.specs.declared.token.Keyword.TheVariants as a_keyword
 use Rattle.ops_reader.specs.declared.form.FormCond.{FormCond}
 use Rattle.ops_reader.specs.declared.form.FormAction.{FormAction}
 use Rattle.ops_reader.specs.declared.part.Step.TheVariants.{Part}
@@ -12,7 +12,7 @@ use Rattle.ops_reader.specs.declared.part.ActionPart.{ActionPart}
 use Rattle.ops_reader.specs.declared.part.ActionPart.TheVariants as of_action
 use Rattle.ops_reader.specs.declared.part.FormPart.{FormPart}
 use Rattle.ops_reader.specs.declared.part.FormPart.TheVariants as of_form
-use Rattle.ops_reader.specs.Token.{Token, Close, Arrow}
+use Rattle.ops_tokens.specs.Token.{Token, Close, Arrow}
 use Rattle.ops_reader.specs.Taken.{around}
 use Rattle.ops_reader.specs.CondReading.{cond_after}
 use Rattle.ops_reader.specs.ActionReading.{action_after}

@@ -8,7 +8,7 @@ use Rattle.ops_reader.specs.declared.form.Form.TheVariants as a_form
 use Rattle.ops_reader.specs.declared.form.FormCond.{FormCond}
 use Rattle.ops_reader.specs.declared.form.Simple.{Simple}
 use Rattle.ops_reader.specs.declared.form.Simple.TheVariants as a_test
-use Rattle.ops_reader.specs.Token.{Token}
+use Rattle.ops_tokens.specs.Token.{Token}
 use Rattle.ops_reader.specs.Grammar.{Phrase, setting, simple, test, pattern, signed, condition, action, form, IsText}
 use Rattle.ops_reader.specs.Shape.{IsSimple, AreSimple, IsOneOfBoth, IsCondition, IsAction, HasShape, AreForms}
 use Rattle.ops_reader.proofs.DepthLemmas.{all_of_any, action_has_shape}

@@ -1,7 +1,7 @@
 -- What stands last before a head, and before the value of a `bind`.
 use Rattle.std.proofs.Common.{◌≡◌, ℕ, List, [], ◌∷◌, ◌++◌, Some, sym, ap, ◌∙◌, append_assoc, append-nil}
 use Rattle.ops_text.specs.Names.{Names}
-use Rattle.ops_reader.specs.declared.token.Keyword.TheVariants as a_keyword
+use Rattle.ops_tokens.specs.declared.token.Keyword.TheVariants as a_keyword
 use Rattle.ops_reader.specs.declared.part.Inner.{Inner}
 use Rattle.ops_reader.specs.declared.part.Inner.TheVariants as of_inner
 use Rattle.ops_reader.specs.declared.part.TermPart.{TermPart}
@@ -23,8 +23,8 @@ use Rattle.ops_reader.specs.declared.part.FormPart.{FormPart}
 use Rattle.ops_reader.specs.declared.part.FormPart.TheVariants as of_form
 use Rattle.ops_reader.specs.declared.slot.Slot.{Slot}
 use Rattle.ops_reader.specs.declared.slot.Slot.TheVariants as slot
-use Rattle.ops_reader.specs.Token.{Token, Open, Close, Variable, Plain}
-use Rattle.ops_reader.specs.Naming.{variable_name}
+use Rattle.ops_tokens.specs.Token.{Token, Open, Close, Variable, Plain}
+use Rattle.ops_tokens.specs.Naming.{variable_name}
 use Rattle.ops_reader.specs.Grammar.{nothing, ◌⨾◌, the, keyword, variable}
 use Rattle.ops_reader.specs.Refusal.{IsEmptyBind}
 use Rattle.ops_reader.specs.Slot.{inner_slot, term_slot, value_slot, set_slot, item_slot, action_slot, test_slot, pattern_slot, condition_slot, form_slot}

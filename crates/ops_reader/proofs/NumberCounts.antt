@@ -24,8 +24,8 @@ use Rattle.ops_reader.specs.declared.form.FormTerm.TheVariants as a_term
 use Rattle.ops_reader.specs.declared.form.FormItem.{FormItem}
 use Rattle.ops_reader.specs.declared.form.FormItem.TheVariants as an_item
 use Rattle.ops_reader.specs.FormTree.{form_tree}
-use Rattle.ops_reader.specs.Token.{Token}
-use Rattle.ops_reader.specs.Naming.{symbol_name, constant_name, literal_name, variable_name}
+use Rattle.ops_tokens.specs.Token.{Token}
+use Rattle.ops_tokens.specs.Naming.{symbol_name, constant_name, literal_name, variable_name}
 use Rattle.ops_reader.specs.Grammar.{Phrase, nothing, never, either, ◌⨾◌, any, some, naming, symbol, constant, literal, argument, setting, compared, simple, alone, test, pattern, signed, condition, expression, operand, term, designator, item, action, form, IsText}
 use Rattle.ops_reader.specs.Named.{numbers_in_value, numbers_in_argument, numbers_in_setting, numbers_in_simple, numbers_in_option, numbers_in_condition, numbers_in_tree, numbers_in_leaf, numbers_in_term, numbers_in_designator, numbers_in_item, numbers_in_action, numbers_in_form}
 

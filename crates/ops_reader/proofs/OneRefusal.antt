@@ -7,9 +7,9 @@ use Rattle.ops_text.specs.Names.{Names}
 use Rattle.ops_reader.specs.declared.form.Form.{Form}
 use Rattle.ops_reader.specs.declared.refusal.SyntaxKind.{SyntaxKind}
 use Rattle.ops_reader.specs.declared.refusal.SyntaxKind.TheVariants.{Unclosed, Unexpected, BadNumeral, LongSymbol, TooDeep, NotInProfile}
-use Rattle.ops_reader.specs.Token.{Token, Open, Close, Slashes, Integer, Plain, Bad}
-use Rattle.ops_reader.specs.Tokens.{tokens_of}
-use Rattle.ops_reader.specs.Places.{places_of}
+use Rattle.ops_tokens.specs.Token.{Token, Open, Close, Slashes, Integer, Plain, Bad}
+use Rattle.ops_tokens.specs.Tokens.{tokens_of}
+use Rattle.ops_tokens.specs.Places.{places_of}
 use Rattle.ops_reader.specs.Grammar.{IsText}
 use Rattle.ops_reader.specs.Refusal.{BeginsText, MayStand, IsLeftOutWord, IsQuote, IsEmptyBind, IsTooDeep, IsOutOfRange, kind_of_fault, HasFault, IsOfKind, IsWrongToken, IsRefusedAt}
 use Rattle.ops_reader.specs.Decided.{SpellsForms, IsRefusedSomewhere}

@@ -4,11 +4,11 @@ use Rattle.std.proofs.lemmas.List.{length-append}
 use native.Mathlib.Numerals.{unary_clauses}
 use Rattle.ops_text.specs.Names.{Names}
 use Rattle.ops_reader.specs.declared.form.Form.{Form}
-use Rattle.ops_reader.specs.declared.token.Token.{Token as Written}
-use Rattle.ops_reader.specs.declared.token.Token.TheVariants as written
-use Rattle.ops_reader.specs.Token.{Token, Open, Close, seen}
-use Rattle.ops_reader.specs.Tokens.{tokens_of}
-use Rattle.ops_reader.specs.Places.{lefts_of, places_of}
+use Rattle.ops_tokens.specs.declared.token.Token.{Token as Written}
+use Rattle.ops_tokens.specs.declared.token.Token.TheVariants as written
+use Rattle.ops_tokens.specs.Token.{Token, Open, Close, seen}
+use Rattle.ops_tokens.specs.Tokens.{tokens_of}
+use Rattle.ops_tokens.specs.Places.{lefts_of, places_of}
 use Rattle.ops_reader.specs.Grammar.{IsText, form}
 use Rattle.ops_reader.specs.FormPlace.{Skip, Outside, Within, Over, skip_after, skip, IsRest, IsFormPlace}
 use Rattle.ops_reader.proofs.SkipLemmas.{skip_over, form_passed}

@@ -1,7 +1,7 @@
 -- How phrases join: what one more token at the end makes of a phrase.
 use Rattle.std.proofs.Common.{◌≡◌, List, [], ◌∷◌, ◌++◌, refl, sym, ap, ◌∙◌, append_assoc, append-nil}
 use Rattle.ops_text.specs.Names.{Names}
-use Rattle.ops_reader.specs.Token.{Token}
+use Rattle.ops_tokens.specs.Token.{Token}
 use Rattle.ops_reader.specs.Grammar.{Phrase, nothing, ◌⨾◌, any}
 
 -- whatever is the one phrase is the other

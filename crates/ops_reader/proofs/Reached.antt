@@ -11,9 +11,9 @@ use Rattle.ops_reader.specs.declared.part.FormPart.TheVariants as of_form
 use Rattle.ops_reader.specs.declared.refusal.FormsRefusal.{FormsRefusal}
 use Rattle.ops_reader.specs.declared.refusal.FormsRefusal.TheVariants.{Syntax, OutOfMemory}
 use Rattle.ops_reader.specs.declared.refusal.SyntaxKind.TheVariants.{Unclosed}
-use Rattle.ops_reader.specs.Token.{Token}
-use Rattle.ops_reader.specs.Tokens.{tokens_of}
-use Rattle.ops_reader.specs.Places.{lefts_of}
+use Rattle.ops_tokens.specs.Token.{Token}
+use Rattle.ops_tokens.specs.Tokens.{tokens_of}
+use Rattle.ops_tokens.specs.Places.{lefts_of}
 use Rattle.ops_reader.specs.Refusal.{BeginsText, MayStand, IsOfKind, IsRefusedAt}
 use Rattle.ops_reader.specs.FormReading.{form_after}
 use Rattle.ops_reader.specs.Taken.{Taken}

@@ -4,7 +4,7 @@ use Rattle.ops_text.specs.Names.{Names}
 use Rattle.ops_reader.specs.declared.form.Form.{Form}
 use Rattle.ops_reader.specs.declared.part.Progress.{Progress}
 use Rattle.ops_reader.specs.declared.part.FormPart.TheVariants as of_form
-use Rattle.ops_reader.specs.Token.{Token}
+use Rattle.ops_tokens.specs.Token.{Token}
 use Rattle.ops_reader.specs.Grammar.{IsText}
 use Rattle.ops_reader.specs.Reading.{start, run}
 use Rattle.ops_reader.specs.Outcome.{reading}

@@ -3,7 +3,7 @@ use Rattle.std.proofs.Common.{◌≡◌, List, [], ◌∷◌, ◌++◌, Option, 
 use Rattle.std.specs.Option.{option_and_then}
 use Rattle.std.proofs.lemmas.Option.{same_Some, option_and_then_some}
 use Rattle.ops_text.specs.Names.{Names}
-use Rattle.ops_reader.specs.Token.{Token}
+use Rattle.ops_tokens.specs.Token.{Token}
 use Rattle.ops_reader.specs.Grammar.{nothing}
 use Rattle.ops_reader.specs.Reading.{Read, start, next, run}
 use Rattle.ops_reader.proofs.Phrases.{with_nothing}

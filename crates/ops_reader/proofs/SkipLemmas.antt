@@ -24,11 +24,11 @@ use Rattle.ops_reader.specs.declared.form.FormTerm.{FormTerm}
 use Rattle.ops_reader.specs.declared.form.FormTerm.TheVariants as a_term
 use Rattle.ops_reader.specs.declared.form.FormItem.{FormItem}
 use Rattle.ops_reader.specs.declared.form.FormItem.TheVariants as an_item
-use Rattle.ops_reader.specs.declared.token.Keyword.{Keyword}
+use Rattle.ops_tokens.specs.declared.token.Keyword.{Keyword}
 use Rattle.ops_reader.specs.FormTree.{form_tree}
-use Rattle.ops_reader.specs.Token.{Token, Open, Close, OpenBrace, CloseBrace, Caret, Arrow, Minus, Slashes, OpenList, CloseList, Predicate, Integer}
+use Rattle.ops_tokens.specs.Token.{Token, Open, Close, OpenBrace, CloseBrace, Caret, Arrow, Minus, Slashes, OpenList, CloseList, Predicate, Integer}
 use Rattle.ops_reader.specs.FormPlace.{Skip, Outside, Within, Over, skip_after, skip}
-use Rattle.ops_reader.specs.Naming.{symbol_name, constant_name, literal_name, variable_name}
+use Rattle.ops_tokens.specs.Naming.{symbol_name, constant_name, literal_name, variable_name}
 use Rattle.ops_reader.specs.Grammar.{Phrase, nothing, never, ◌⨾◌, either, any, some, the, keyword, up_to, naming, symbol, variable, constant, literal, argument, setting, compared, simple, alone, test, pattern, signed, condition, operator, expression, operand, term, designator, item, action, strategy_word, form}
 
 -- what is over stays over

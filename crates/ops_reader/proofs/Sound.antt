@@ -3,7 +3,7 @@ use Rattle.std.proofs.Common.{ℕ, List, [], ◌∷◌, ◌++◌, Some, None, re
 use Rattle.std.specs.Option.{option_map}
 use Rattle.ops_text.specs.Names.{Names}
 use Rattle.rule_base.specs.declared.value.Value.{Value}
-use Rattle.ops_reader.specs.declared.token.Keyword.TheVariants as a_keyword
+use Rattle.ops_tokens.specs.declared.token.Keyword.TheVariants as a_keyword
 use Rattle.ops_reader.specs.declared.form.Form.{Form}
 use Rattle.ops_reader.specs.declared.form.Form.TheVariants as a_form
 use Rattle.ops_reader.specs.declared.form.FormCond.{FormCond}
@@ -18,7 +18,7 @@ use Rattle.ops_reader.specs.declared.part.CondPart.{CondPart}
 use Rattle.ops_reader.specs.declared.part.CondPart.TheVariants as of_cond
 use Rattle.ops_reader.specs.declared.part.ActionPart.{ActionPart}
 use Rattle.ops_reader.specs.declared.part.ActionPart.TheVariants as of_action
-use Rattle.ops_reader.specs.Token.{Token, Open, Close, Arrow, Plain}
+use Rattle.ops_tokens.specs.Token.{Token, Open, Close, Arrow, Plain}
 use Rattle.ops_reader.specs.Grammar.{Phrase, nothing, never, ◌⨾◌, any, some, the, keyword, up_to, symbol, literal, setting, condition, action, strategy_word, form}
 use Rattle.ops_reader.specs.Taken.{Taken, symbol_of, literal_of, number_up_to, set_after}
 use Rattle.ops_reader.specs.CondReading.{cond_after}

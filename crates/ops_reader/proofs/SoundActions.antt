@@ -1,8 +1,8 @@
 -- What a part of an action has been spelled by.
 use Rattle.std.proofs.Common.{ℕ, List, [], ◌∷◌, ◌++◌, Some, refl, IfSome}
 use Rattle.ops_text.specs.Names.{Names}
-use Rattle.ops_reader.specs.declared.token.Keyword.{Keyword}
-use Rattle.ops_reader.specs.declared.token.Keyword.TheVariants as a_keyword
+use Rattle.ops_tokens.specs.declared.token.Keyword.{Keyword}
+use Rattle.ops_tokens.specs.declared.token.Keyword.TheVariants as a_keyword
 use Rattle.ops_reader.specs.declared.form.FormAction.{FormAction}
 use Rattle.ops_reader.specs.declared.form.FormAction.TheVariants as an_action
 use Rattle.ops_reader.specs.declared.form.At.{At}
@@ -16,7 +16,7 @@ use Rattle.ops_reader.specs.declared.part.ItemPart.{ItemPart}
 use Rattle.ops_reader.specs.declared.part.ItemPart.TheVariants as of_item
 use Rattle.ops_reader.specs.declared.part.ActionPart.{ActionPart}
 use Rattle.ops_reader.specs.declared.part.ActionPart.TheVariants as of_action
-use Rattle.ops_reader.specs.Token.{Token, Open, Close, Integer, Plain}
+use Rattle.ops_tokens.specs.Token.{Token, Open, Close, Integer, Plain}
 use Rattle.ops_reader.specs.Grammar.{Phrase, nothing, never, ◌⨾◌, any, the, keyword, symbol, variable, term, designator, item, action}
 use Rattle.ops_reader.specs.Taken.{symbol_of, variable_of, around}
 use Rattle.ops_reader.specs.TermReading.{TermSetsPart, term_after, term_sets_after}

@@ -4,14 +4,14 @@ use Rattle.std.proofs.lemmas.Bool.Decides.{nat_tests}
 use Rattle.std.specs.Option.{option_map}
 use Rattle.ops_text.specs.Names.{Names, number_of, with_name}
 use Rattle.rule_base.specs.declared.value.Value.TheVariants as a_value
-use Rattle.ops_reader.specs.declared.token.Keyword.{Keyword}
+use Rattle.ops_tokens.specs.declared.token.Keyword.{Keyword}
 use Rattle.ops_reader.specs.declared.form.FormArg.TheVariants as an_argument
 use Rattle.ops_reader.specs.declared.part.Step.{Step}
 use Rattle.ops_reader.specs.declared.part.Step.TheVariants.{Part, Whole}
 use Rattle.ops_reader.specs.declared.part.SetPart.{SetPart}
 use Rattle.ops_reader.specs.declared.part.SetPart.TheVariants as of_set
-use Rattle.ops_reader.specs.Token.{Token, Open, Caret, Variable, Integer, Plain}
-use Rattle.ops_reader.specs.Naming.{symbol_name, constant_name, literal_name, variable_name}
+use Rattle.ops_tokens.specs.Token.{Token, Open, Caret, Variable, Integer, Plain}
+use Rattle.ops_tokens.specs.Naming.{symbol_name, constant_name, literal_name, variable_name}
 use Rattle.ops_reader.specs.Grammar.{Phrase, nothing, ◌⨾◌, any, the, keyword, up_to, naming, symbol, variable, constant, literal, argument, setting}
 use Rattle.ops_reader.specs.Taken.{Taken, named_of, symbol_of, variable_of, constant_of, literal_of, argument_of, number_up_to, grown, made, around, set_after}
 use Rattle.ops_reader.proofs.Phrases.{Implies, Extends, then_one, within, from_nothing, with_nothing, Extends-weaker, then_element}

@@ -12,7 +12,7 @@ use Rattle.ops_reader.specs.declared.part.SimplePart.{SimplePart}
 use Rattle.ops_reader.specs.declared.part.SimplePart.TheVariants as of_simple
 use Rattle.ops_reader.specs.declared.part.TestPart.{TestPart}
 use Rattle.ops_reader.specs.declared.part.TestPart.TheVariants as of_test
-use Rattle.ops_reader.specs.Token.{Token, OpenBrace, CloseBrace, Caret, OpenList, CloseList, Predicate}
+use Rattle.ops_tokens.specs.Token.{Token, OpenBrace, CloseBrace, Caret, OpenList, CloseList, Predicate}
 use Rattle.ops_reader.specs.Grammar.{Phrase, nothing, ◌⨾◌, any, the, symbol, constant, argument, setting, simple, test}
 use Rattle.ops_reader.specs.Taken.{symbol_of, constant_of, argument_of}
 use Rattle.ops_reader.specs.TestReading.{compared_by, values_after, simple_begun, simple_after, alone_after, with_simple, braced_after, test_after}

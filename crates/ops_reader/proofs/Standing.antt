@@ -3,13 +3,13 @@ use Rattle.std.proofs.Common.{◌≡◌, ℕ, true, false, List, [], ◌∷◌, 
 use Rattle.std.specs.Option.{is_some, option_map, option_and_then}
 use Rattle.std.proofs.lemmas.Option.{same_Some, option_and_then_some}
 use Rattle.ops_text.specs.Names.{Names}
-use Rattle.ops_reader.specs.declared.token.Keyword.TheVariants as a_keyword
+use Rattle.ops_tokens.specs.declared.token.Keyword.TheVariants as a_keyword
 use Rattle.ops_reader.specs.declared.form.Form.{Form}
 use Rattle.ops_reader.specs.declared.part.Step.{Step}
 use Rattle.ops_reader.specs.declared.part.Step.TheVariants.{Part, Whole}
 use Rattle.ops_reader.specs.declared.part.FormPart.{FormPart}
 use Rattle.ops_reader.specs.declared.slot.Slot.TheVariants as slot
-use Rattle.ops_reader.specs.Token.{Token, Open, Close, Variable, Plain}
+use Rattle.ops_tokens.specs.Token.{Token, Open, Close, Variable, Plain}
 use Rattle.ops_reader.specs.Refusal.{BeginsText, MayStand, IsEmptyBind}
 use Rattle.ops_reader.specs.FormReading.{form_after}
 use Rattle.ops_reader.specs.Reading.{Read, start, with_form, next, run}

@@ -3,7 +3,7 @@ use Rattle.std.proofs.Common.{◌≡◌, ℕ, pos, false, List, [], ◌∷◌, �
 use Rattle.ops_text.specs.Names.{Names, number_of, with_name}
 use Rattle.rule_base.specs.declared.value.Value.{Value}
 use Rattle.rule_base.specs.declared.value.Value.TheVariants as a_value
-use Rattle.ops_reader.specs.declared.token.Keyword.TheVariants as a_keyword
+use Rattle.ops_tokens.specs.declared.token.Keyword.TheVariants as a_keyword
 use Rattle.ops_reader.specs.declared.form.Form.{Form}
 use Rattle.ops_reader.specs.declared.form.Form.TheVariants as a_form
 use Rattle.ops_reader.specs.declared.form.FormCond.{FormCond}
@@ -17,7 +17,7 @@ use Rattle.ops_reader.specs.declared.part.CondPart.{CondPart}
 use Rattle.ops_reader.specs.declared.part.CondPart.TheVariants as of_cond
 use Rattle.ops_reader.specs.declared.part.ActionPart.{ActionPart}
 use Rattle.ops_reader.specs.declared.part.ActionPart.TheVariants as of_action
-use Rattle.ops_reader.specs.Token.{Token, Close, Arrow, Integer, Plain}
+use Rattle.ops_tokens.specs.Token.{Token, Close, Arrow, Integer, Plain}
 use Rattle.ops_reader.specs.CondReading.{cond_after}
 use Rattle.ops_reader.specs.ActionReading.{action_after}
 use Rattle.ops_reader.specs.FormReading.{with_cond, with_action, arrow_after, form_after}

@@ -1,7 +1,7 @@
 -- A part of an action has an end.
 use Rattle.std.proofs.Common.{ℕ, pos, List, [], ◌∷◌, ◌++◌, Some, refl}
 use Rattle.ops_text.specs.Names.{Names, number_of, with_name}
-use Rattle.ops_reader.specs.declared.token.Keyword.TheVariants as a_keyword
+use Rattle.ops_tokens.specs.declared.token.Keyword.TheVariants as a_keyword
 use Rattle.ops_reader.specs.declared.form.FormAction.{FormAction}
 use Rattle.ops_reader.specs.declared.form.FormAction.TheVariants as an_action
 use Rattle.ops_reader.specs.declared.form.At.{At}
@@ -16,7 +16,7 @@ use Rattle.ops_reader.specs.declared.part.ItemPart.{ItemPart}
 use Rattle.ops_reader.specs.declared.part.ItemPart.TheVariants as of_item
 use Rattle.ops_reader.specs.declared.part.ActionPart.{ActionPart}
 use Rattle.ops_reader.specs.declared.part.ActionPart.TheVariants as of_action
-use Rattle.ops_reader.specs.Token.{Token, Open, Close, Variable, Plain}
+use Rattle.ops_tokens.specs.Token.{Token, Open, Close, Variable, Plain}
 use Rattle.ops_reader.specs.TermReading.{term_after, term_sets_after}
 use Rattle.ops_reader.specs.ItemReading.{item_after}
 use Rattle.ops_reader.specs.ActionReading.{action_after}

@@ -1,7 +1,7 @@
 -- Whatever has been read can go on to its end: a part has an end behind which the whole has been read.
 use Rattle.std.proofs.Common.{◌≡◌, List, [], ◌∷◌, ◌++◌, Some, None, ap, ◌∙◌, append_assoc}
 use Rattle.ops_text.specs.Names.{Names}
-use Rattle.ops_reader.specs.Token.{Token, Plain}
+use Rattle.ops_tokens.specs.Token.{Token, Plain}
 use Rattle.ops_reader.specs.Reading.{Read, next, run}
 use Rattle.ops_reader.proofs.CompleteBasics.{leads_by}
 

@@ -17,7 +17,7 @@ use Rattle.ops_reader.specs.declared.part.PatternPart.{PatternPart}
 use Rattle.ops_reader.specs.declared.part.PatternPart.TheVariants as of_pattern
 use Rattle.ops_reader.specs.declared.part.CondPart.{CondPart}
 use Rattle.ops_reader.specs.declared.part.CondPart.TheVariants as of_cond
-use Rattle.ops_reader.specs.Token.{Token, Open, Close, CloseBrace, Caret, CloseList, Variable}
+use Rattle.ops_tokens.specs.Token.{Token, Open, Close, CloseBrace, Caret, CloseList, Variable}
 use Rattle.ops_reader.specs.TestReading.{compared_by, simple_after, with_simple, test_after}
 use Rattle.ops_reader.specs.CondReading.{with_test, pattern_after, condition_of, cond_after}
 use Rattle.ops_reader.specs.Reading.{Read}

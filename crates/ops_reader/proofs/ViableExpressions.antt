@@ -9,7 +9,7 @@ use Rattle.ops_reader.specs.declared.part.ExprPart.{ExprPart}
 use Rattle.ops_reader.specs.declared.part.Before.{Before}
 use Rattle.ops_reader.specs.declared.part.Inner.{Inner}
 use Rattle.ops_reader.specs.declared.part.Inner.TheVariants as of_inner
-use Rattle.ops_reader.specs.Token.{Token, Close, Integer}
+use Rattle.ops_tokens.specs.Token.{Token, Close, Integer}
 use Rattle.ops_reader.specs.ExpressionReading.{with_operand, in_parentheses, behind, ahead, expression_after}
 use Rattle.ops_reader.specs.Reading.{Read, next}
 use Rattle.ops_reader.proofs.CompleteBasics.{leads_by, IsWithin}

@@ -2,7 +2,7 @@
 use Rattle.std.proofs.Common.{◌≡◌, ℕ, pos, List, [], ◌∷◌, ◌++◌, Some, refl}
 use Rattle.ops_text.specs.Names.{Names, number_of, with_name}
 use Rattle.rule_base.specs.declared.value.Value.TheVariants as a_value
-use Rattle.ops_reader.specs.declared.token.Keyword.TheVariants as a_keyword
+use Rattle.ops_tokens.specs.declared.token.Keyword.TheVariants as a_keyword
 use Rattle.ops_reader.specs.declared.form.FormTerm.{FormTerm}
 use Rattle.ops_reader.specs.declared.form.FormTerm.TheVariants as a_term
 use Rattle.ops_reader.specs.declared.form.FormItem.{FormItem}
@@ -15,7 +15,7 @@ use Rattle.ops_reader.specs.declared.part.TermSetPart.{TermSetPart}
 use Rattle.ops_reader.specs.declared.part.TermSetPart.TheVariants as of_set
 use Rattle.ops_reader.specs.declared.part.ItemPart.{ItemPart}
 use Rattle.ops_reader.specs.declared.part.ItemPart.TheVariants as of_item
-use Rattle.ops_reader.specs.Token.{Token, Close, Caret, Integer, Plain}
+use Rattle.ops_tokens.specs.Token.{Token, Close, Caret, Integer, Plain}
 use Rattle.ops_reader.specs.ExpressionReading.{expression_after}
 use Rattle.ops_reader.specs.TermReading.{TermSetsPart, no_expression, term_after, term_set_after, term_sets_after}
 use Rattle.ops_reader.specs.ItemReading.{item_after}

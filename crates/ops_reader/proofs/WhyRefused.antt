@@ -1,15 +1,15 @@
 -- The kind of a refused token, by the slot of what has been read.
 use Rattle.std.proofs.Common.{◌≡◌, ◌⊎◌, inl, inr, ℕ, ℤ, Bool, true, false, ◌&&◌, cond, List, [], ◌∷◌, ◌++◌, Option, Some, refl, sym, ap, ◌∙◌, subst}
 use Rattle.ops_text.specs.Names.{Names}
-use Rattle.ops_reader.specs.declared.token.Keyword.{Keyword}
-use Rattle.ops_reader.specs.declared.token.Keyword.TheVariants as a_keyword
-use Rattle.ops_reader.specs.declared.token.LexicalFault.{LexicalFault}
-use Rattle.ops_reader.specs.declared.token.LexicalFault.TheVariants as fault
+use Rattle.ops_tokens.specs.declared.token.Keyword.{Keyword}
+use Rattle.ops_tokens.specs.declared.token.Keyword.TheVariants as a_keyword
+use Rattle.ops_tokens.specs.declared.token.LexicalFault.{LexicalFault}
+use Rattle.ops_tokens.specs.declared.token.LexicalFault.TheVariants as fault
 use Rattle.ops_reader.specs.declared.refusal.SyntaxKind.{SyntaxKind}
 use Rattle.ops_reader.specs.declared.refusal.SyntaxKind.TheVariants.{Unexpected, NotInProfile}
 use Rattle.ops_reader.specs.declared.slot.Slot.{Slot}
 use Rattle.ops_reader.specs.declared.slot.Slot.TheVariants as slot
-use Rattle.ops_reader.specs.Token.{Token, Open, Close, Slashes, Integer, Plain, Bad}
+use Rattle.ops_tokens.specs.Token.{Token, Open, Close, Slashes, Integer, Plain, Bad}
 use Rattle.ops_reader.specs.LeftOut.{is_left_out}
 use Rattle.ops_reader.specs.Refusal.{MayStand, IsHead, TakesConstant, TakesOperand, IsLeftOutWord, IsQuote, IsEmptyBind, IsTooDeep, IsOutOfRange, kind_of_fault, HasFault, IsOfKind}
 use Rattle.ops_reader.specs.FormReading.{form_after}

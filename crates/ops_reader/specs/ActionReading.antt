@@ -2,7 +2,7 @@
 use Rattle.std.specs.Prelude.{ℕ, List, [], ◌∷◌, ◌++◌, Some, None}
 use Rattle.std.specs.Option.{option_map}
 use Rattle.ops_text.specs.Names.{Names}
-use Rattle.ops_reader.specs.declared.token.Keyword.TheVariants as a_keyword
+use Rattle.ops_tokens.specs.declared.token.Keyword.TheVariants as a_keyword
 use Rattle.ops_reader.specs.declared.form.FormAction.{FormAction}
 use Rattle.ops_reader.specs.declared.form.FormAction.TheVariants as an_action
 use Rattle.ops_reader.specs.declared.form.At.{At}
@@ -17,7 +17,7 @@ use Rattle.ops_reader.specs.declared.part.ItemPart.{ItemPart}
 use Rattle.ops_reader.specs.declared.part.ItemPart.TheVariants as of_item
 use Rattle.ops_reader.specs.declared.part.ActionPart.{ActionPart}
 use Rattle.ops_reader.specs.declared.part.ActionPart.TheVariants as of_action
-use Rattle.ops_reader.specs.Token.{Token, Open, Close, Integer, Plain}
+use Rattle.ops_tokens.specs.Token.{Token, Open, Close, Integer, Plain}
 use Rattle.ops_reader.specs.Taken.{Taken, symbol_of, variable_of, grown, around}
 use Rattle.ops_reader.specs.TermReading.{TermSetsPart, term_after, term_sets_after}
 use Rattle.ops_reader.specs.ItemReading.{item_after}

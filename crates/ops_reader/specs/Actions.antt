@@ -4,7 +4,7 @@ use Rattle.rule_base.specs.declared.expression.Op.{Op}
 use Rattle.rule_base.specs.declared.expression.Op.TheVariants as op
 use Rattle.rule_base.specs.Expression.{Tree, single, joined, Leaf, number, parentheses}
 use Rattle.rule_base.specs.Expression as tree
-use Rattle.ops_reader.specs.declared.token.Keyword.TheVariants as a_keyword
+use Rattle.ops_tokens.specs.declared.token.Keyword.TheVariants as a_keyword
 use Rattle.ops_reader.specs.declared.form.FormAction.{FormAction}
 use Rattle.ops_reader.specs.declared.form.FormAction.TheVariants as an_action
 use Rattle.ops_reader.specs.declared.form.At.{At}
@@ -14,7 +14,7 @@ use Rattle.ops_reader.specs.declared.form.FormTerm.TheVariants as a_term
 use Rattle.ops_reader.specs.declared.form.FormItem.{FormItem}
 use Rattle.ops_reader.specs.declared.form.FormItem.TheVariants as an_item
 use Rattle.ops_reader.specs.FormTree.{form_tree}
-use Rattle.ops_reader.specs.Token.{Open, Close, Minus, Slashes, Integer}
+use Rattle.ops_tokens.specs.Token.{Open, Close, Minus, Slashes, Integer}
 use Rattle.ops_reader.specs.Phrase.{Phrase, never, ◌⨾◌, any, some, the, keyword, up_to}
 use Rattle.ops_reader.specs.Values.{symbol, variable, literal, setting}
 

@@ -5,7 +5,7 @@ use Rattle.rule_base.specs.declared.condition.Pred.TheVariants as pred
 use Rattle.ops_reader.specs.declared.form.FormCond.{FormCond}
 use Rattle.ops_reader.specs.declared.form.Simple.{Simple}
 use Rattle.ops_reader.specs.declared.form.Simple.TheVariants as a_test
-use Rattle.ops_reader.specs.Token.{Open, Close, OpenBrace, CloseBrace, Minus, OpenList, CloseList, Predicate}
+use Rattle.ops_tokens.specs.Token.{Open, Close, OpenBrace, CloseBrace, Minus, OpenList, CloseList, Predicate}
 use Rattle.ops_reader.specs.Phrase.{Phrase, never, ◌⨾◌, either, any, the}
 use Rattle.ops_reader.specs.Values.{symbol, variable, constant, argument, setting}
 

@@ -4,7 +4,7 @@ use Rattle.std.specs.Option.{option_map}
 use Rattle.ops_text.specs.Names.{Names}
 use Rattle.rule_base.specs.declared.expression.Op.{Op}
 use Rattle.rule_base.specs.declared.expression.Op.TheVariants as op
-use Rattle.ops_reader.specs.declared.token.Keyword.TheVariants as a_keyword
+use Rattle.ops_tokens.specs.declared.token.Keyword.TheVariants as a_keyword
 use Rattle.ops_reader.specs.declared.form.FormExpr.{FormExpr, roll-FormExpr}
 use Rattle.ops_reader.specs.declared.form.FormOperand.{FormOperand, roll-FormOperand}
 use Rattle.ops_reader.specs.declared.form.FormOperand.TheOpen as an_operand
@@ -15,7 +15,7 @@ use Rattle.ops_reader.specs.declared.part.Before.{Before}
 use Rattle.ops_reader.specs.declared.part.Before.TheVariants as of_before
 use Rattle.ops_reader.specs.declared.part.Inner.{Inner}
 use Rattle.ops_reader.specs.declared.part.Inner.TheVariants as of_inner
-use Rattle.ops_reader.specs.Token.{Token, Open, Close, Minus, Slashes, Integer, Plain}
+use Rattle.ops_tokens.specs.Token.{Token, Open, Close, Minus, Slashes, Integer, Plain}
 use Rattle.ops_reader.specs.Taken.{Taken, variable_of, grown}
 
 -- an operator

@@ -2,9 +2,9 @@
 use Rattle.std.specs.Prelude.{◌≡◌, ◌-◌, ◌≤◌, ℕ, zero, suc, List, [], ◌∷◌, ◌++◌, Some, length, take, slice_get}
 use Rattle.ops_text.specs.Names.{Names}
 use Rattle.ops_reader.specs.declared.form.Form.{Form}
-use Rattle.ops_reader.specs.Tokens.{tokens_of}
-use Rattle.ops_reader.specs.Token.{Token, Open, Close}
-use Rattle.ops_reader.specs.Places.{lefts_of, places_of}
+use Rattle.ops_tokens.specs.Tokens.{tokens_of}
+use Rattle.ops_tokens.specs.Token.{Token, Open, Close}
+use Rattle.ops_tokens.specs.Places.{lefts_of, places_of}
 use Rattle.ops_reader.specs.Grammar.{IsText}
 
 -- how far a form has been passed over: it has not begun, so many brackets are open within its own, or it is over

@@ -2,7 +2,7 @@
 use Rattle.std.specs.Prelude.{ℕ, true, false, List, [], ◌∷◌, ◌++◌, Some, None}
 use Rattle.ops_text.specs.Names.{Names}
 use Rattle.rule_base.specs.declared.value.Value.{Value}
-use Rattle.ops_reader.specs.declared.token.Keyword.TheVariants as a_keyword
+use Rattle.ops_tokens.specs.declared.token.Keyword.TheVariants as a_keyword
 use Rattle.ops_reader.specs.declared.form.Form.{Form}
 use Rattle.ops_reader.specs.declared.form.Form.TheVariants as a_form
 use Rattle.ops_reader.specs.declared.form.FormCond.{FormCond}
@@ -17,7 +17,7 @@ use Rattle.ops_reader.specs.declared.part.CondPart.{CondPart}
 use Rattle.ops_reader.specs.declared.part.CondPart.TheVariants as of_cond
 use Rattle.ops_reader.specs.declared.part.ActionPart.{ActionPart}
 use Rattle.ops_reader.specs.declared.part.ActionPart.TheVariants as of_action
-use Rattle.ops_reader.specs.Token.{Token, Open, Close, Arrow, Plain}
+use Rattle.ops_tokens.specs.Token.{Token, Open, Close, Arrow, Plain}
 use Rattle.ops_reader.specs.Taken.{Taken, symbol_of, literal_of, number_up_to, grown, around, set_after}
 use Rattle.ops_reader.specs.CondReading.{cond_after}
 use Rattle.ops_reader.specs.ActionReading.{action_after}

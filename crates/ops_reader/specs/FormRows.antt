@@ -12,7 +12,7 @@ use Rattle.ops_reader.specs.declared.form.At.TheVariants as a_place
 use Rattle.ops_reader.specs.declared.form.FormTerm.TheVariants as a_term
 use Rattle.ops_reader.specs.declared.form.FormItem.TheVariants.{Put}
 use Rattle.ops_reader.specs.declared.part.FormPart.TheVariants as of_form
-use Rattle.ops_reader.specs.Tokens.{tokens_of}
+use Rattle.ops_tokens.specs.Tokens.{tokens_of}
 use Rattle.ops_reader.specs.Reading.{Read, start, run}
 
 -- the forms and the names of a text that is read with `nil` alone, or the part of a form that is open at its end, or none

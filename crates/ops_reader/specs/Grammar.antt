@@ -1,11 +1,11 @@
 -- The grammar: which tokens spell which forms.
 use Rattle.std.specs.Prelude.{List, Bool, true, false}
 use Rattle.ops_text.specs.Names.{Names}
-use Rattle.ops_reader.specs.declared.token.Keyword.{Keyword}
-use Rattle.ops_reader.specs.declared.token.Keyword.TheVariants as a_keyword
+use Rattle.ops_tokens.specs.declared.token.Keyword.{Keyword}
+use Rattle.ops_tokens.specs.declared.token.Keyword.TheVariants as a_keyword
 use Rattle.ops_reader.specs.declared.form.Form.{Form}
 use Rattle.ops_reader.specs.declared.form.Form.TheVariants as a_form
-use Rattle.ops_reader.specs.Token.{Token, Open, Close, Arrow}
+use Rattle.ops_tokens.specs.Token.{Token, Open, Close, Arrow}
 pub use Rattle.ops_reader.specs.Phrase.{Phrase, nothing, never, ◌⨾◌, either, any, some, the, keyword, up_to, naming}
 pub use Rattle.ops_reader.specs.Values.{symbol, variable, constant, literal, argument, setting}
 pub use Rattle.ops_reader.specs.Conditions.{compared, simple, alone, test, pattern, signed, condition}

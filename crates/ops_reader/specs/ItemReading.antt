@@ -1,7 +1,7 @@
 -- What one more token makes of a part of an item of a `write`.
 use Rattle.std.specs.Prelude.{Some, None}
 use Rattle.ops_text.specs.Names.{Names}
-use Rattle.ops_reader.specs.declared.token.Keyword.TheVariants as a_keyword
+use Rattle.ops_tokens.specs.declared.token.Keyword.TheVariants as a_keyword
 use Rattle.ops_reader.specs.declared.form.FormTerm.TheVariants as a_term
 use Rattle.ops_reader.specs.declared.form.FormItem.{FormItem}
 use Rattle.ops_reader.specs.declared.form.FormItem.TheVariants as an_item
@@ -9,7 +9,7 @@ use Rattle.ops_reader.specs.declared.part.Step.{Step}
 use Rattle.ops_reader.specs.declared.part.Step.TheVariants.{Part, Whole}
 use Rattle.ops_reader.specs.declared.part.ItemPart.{ItemPart}
 use Rattle.ops_reader.specs.declared.part.ItemPart.TheVariants as of_item
-use Rattle.ops_reader.specs.Token.{Token, Open, Close, Plain}
+use Rattle.ops_tokens.specs.Token.{Token, Open, Close, Plain}
 use Rattle.ops_reader.specs.Taken.{Taken, number_up_to, grown, made, around}
 use Rattle.ops_reader.specs.ExpressionReading.{expression_after}
 use Rattle.ops_reader.specs.TermReading.{value_of, no_expression}

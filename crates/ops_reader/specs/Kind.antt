@@ -4,7 +4,7 @@ use Rattle.ops_reader.specs.declared.refusal.SyntaxKind.{SyntaxKind}
 use Rattle.ops_reader.specs.declared.refusal.SyntaxKind.TheVariants.{Unexpected, BadNumeral, TooDeep, NotInProfile}
 use Rattle.ops_reader.specs.declared.slot.Slot.{Slot}
 use Rattle.ops_reader.specs.declared.slot.Slot.TheVariants as slot
-use Rattle.ops_reader.specs.Token.{Token, Open, Close, Slashes, Integer, Plain, Bad}
+use Rattle.ops_tokens.specs.Token.{Token, Open, Close, Slashes, Integer, Plain, Bad}
 use Rattle.ops_reader.specs.LeftOut.{is_left_out}
 use Rattle.ops_reader.specs.Refusal.{kind_of_fault}
 

@@ -1,10 +1,4 @@
--- how bytes fall into tokens, and which tokens spell which forms
-pub mod Byte
-pub mod Token
-pub mod Word
-pub mod Tokens
-pub mod Places
-pub mod Naming
+-- which tokens spell which forms
 pub mod Phrase
 pub mod Values
 pub mod Conditions
@@ -30,17 +24,7 @@ pub mod Slot
 pub mod Kind
 pub mod Outcome
 -- laws
-pub mod Cut
-pub mod CutPlaces
-pub mod WordShapes
 pub mod Exact
 pub mod Decided
-pub mod TokenRows
 pub mod FormRows
 pub mod RuleRows
--- printing
-pub mod CanonicalValues
-pub mod CanonicalConditions
-pub mod CanonicalActions
-pub mod Canonical
-pub mod RoundTrip

@@ -8,7 +8,7 @@ use Rattle.ops_reader.specs.declared.refusal.TokenRefusal.{TokenRefusal}
 use Rattle.ops_reader.specs.declared.refusal.TokenRefusal.TheVariants as token_refusal
 use Rattle.ops_reader.specs.Taken.{Taken}
 use Rattle.ops_reader.specs.Refusal.{IsRefusedAt}
-use Rattle.ops_reader.specs.Token.{Token}
+use Rattle.ops_tokens.specs.Token.{Token}
 use Rattle.ops_reader.specs.Reading.{Read, next}
 use Rattle.ops_reader.specs.Slot.{form_slot}
 use Rattle.ops_reader.specs.Kind.{kind_at}

@@ -2,8 +2,8 @@
 -- relates the names before its tokens to those after them.
 use Rattle.std.specs.Prelude.{◌≡◌, ◌≤◌, ◌⊎◌, ℕ, pos, List, [], ◌∷◌, ◌++◌, Option, Some}
 use Rattle.ops_text.specs.Names.{Names, number_of, with_name}
-use Rattle.ops_reader.specs.declared.token.Keyword.{Keyword}
-use Rattle.ops_reader.specs.Token.{Token, Integer, Plain}
+use Rattle.ops_tokens.specs.declared.token.Keyword.{Keyword}
+use Rattle.ops_tokens.specs.Token.{Token, Integer, Plain}
 
 -- a relation of the names before some tokens, the tokens, and the names after them
 abbrev pub Phrase : Type 1

@@ -7,7 +7,7 @@ use Rattle.ops_reader.specs.declared.part.Step.{Step}
 use Rattle.ops_reader.specs.declared.part.Step.TheVariants.{Part, Whole}
 use Rattle.ops_reader.specs.declared.part.FormPart.{FormPart}
 use Rattle.ops_reader.specs.declared.part.FormPart.TheVariants as of_form
-use Rattle.ops_reader.specs.Token.{Token}
+use Rattle.ops_tokens.specs.Token.{Token}
 use Rattle.ops_reader.specs.FormReading.{form_after}
 
 -- the names so far, the forms that are whole, and the part of the next one

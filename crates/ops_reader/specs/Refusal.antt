@@ -1,16 +1,16 @@
 -- Why a text is refused: the place and the kind of the first token with which no text of the grammar goes on, or its end.
 use Rattle.std.specs.Prelude.{◌≡◌, ◌⊎◌, ℕ, pos, true, List, [], ◌∷◌, ◌++◌, Some, length, take, slice_get}
 use Rattle.ops_text.specs.Names.{Names}
-use Rattle.ops_reader.specs.declared.token.Keyword.{Keyword}
-use Rattle.ops_reader.specs.declared.token.Keyword.TheVariants as a_keyword
-use Rattle.ops_reader.specs.declared.token.LexicalFault.{LexicalFault}
-use Rattle.ops_reader.specs.declared.token.LexicalFault.TheVariants as fault
+use Rattle.ops_tokens.specs.declared.token.Keyword.{Keyword}
+use Rattle.ops_tokens.specs.declared.token.Keyword.TheVariants as a_keyword
+use Rattle.ops_tokens.specs.declared.token.LexicalFault.{LexicalFault}
+use Rattle.ops_tokens.specs.declared.token.LexicalFault.TheVariants as fault
 use Rattle.ops_reader.specs.declared.form.Form.{Form}
 use Rattle.ops_reader.specs.declared.refusal.SyntaxKind.{SyntaxKind}
 use Rattle.ops_reader.specs.declared.refusal.SyntaxKind.TheVariants.{Unclosed, Unexpected, BadNumeral, LongSymbol, TooDeep, NotInProfile}
-use Rattle.ops_reader.specs.Token.{Token, Open, Close, Slashes, Variable, Integer, Plain, Barred, Bad}
-use Rattle.ops_reader.specs.Tokens.{tokens_of}
-use Rattle.ops_reader.specs.Places.{places_of}
+use Rattle.ops_tokens.specs.Token.{Token, Open, Close, Slashes, Variable, Integer, Plain, Barred, Bad}
+use Rattle.ops_tokens.specs.Tokens.{tokens_of}
+use Rattle.ops_tokens.specs.Places.{places_of}
 use Rattle.ops_reader.specs.LeftOut.{is_left_out}
 use Rattle.ops_reader.specs.Grammar.{IsText}
 

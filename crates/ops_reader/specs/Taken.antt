@@ -10,8 +10,8 @@ use Rattle.ops_reader.specs.declared.part.Step.{Step}
 use Rattle.ops_reader.specs.declared.part.Step.TheVariants.{Part, Whole}
 use Rattle.ops_reader.specs.declared.part.SetPart.{SetPart}
 use Rattle.ops_reader.specs.declared.part.SetPart.TheVariants as of_set
-use Rattle.ops_reader.specs.Token.{Token, Caret, Variable, Integer}
-use Rattle.ops_reader.specs.Naming.{symbol_name, constant_name, literal_name, variable_name}
+use Rattle.ops_tokens.specs.Token.{Token, Caret, Variable, Integer}
+use Rattle.ops_tokens.specs.Naming.{symbol_name, constant_name, literal_name, variable_name}
 
 -- what a token gives, with the names after it, or none where it can't stand there
 abbrev pub Taken : Type 0 → Type 0

@@ -2,7 +2,7 @@
 use Rattle.std.specs.Prelude.{ℕ, List, [], ◌∷◌, ◌++◌, Some, None}
 use Rattle.std.specs.Option.{option_map}
 use Rattle.ops_text.specs.Names.{Names}
-use Rattle.ops_reader.specs.declared.token.Keyword.TheVariants as a_keyword
+use Rattle.ops_tokens.specs.declared.token.Keyword.TheVariants as a_keyword
 use Rattle.ops_reader.specs.declared.form.FormTerm.{FormTerm}
 use Rattle.ops_reader.specs.declared.form.FormTerm.TheVariants as a_term
 use Rattle.ops_reader.specs.declared.part.Step.{Step}
@@ -13,7 +13,7 @@ use Rattle.ops_reader.specs.declared.part.TermPart.{TermPart}
 use Rattle.ops_reader.specs.declared.part.TermPart.TheVariants as of_term
 use Rattle.ops_reader.specs.declared.part.TermSetPart.{TermSetPart}
 use Rattle.ops_reader.specs.declared.part.TermSetPart.TheVariants as of_set
-use Rattle.ops_reader.specs.Token.{Token, Open, Close, Caret, Variable, Plain}
+use Rattle.ops_tokens.specs.Token.{Token, Open, Close, Caret, Variable, Plain}
 use Rattle.ops_reader.specs.Taken.{Taken, symbol_of, variable_of, literal_of, grown, made, around}
 use Rattle.ops_reader.specs.ExpressionReading.{ahead, expression_after}
 

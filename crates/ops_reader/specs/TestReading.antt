@@ -13,7 +13,7 @@ use Rattle.ops_reader.specs.declared.part.SimplePart.{SimplePart}
 use Rattle.ops_reader.specs.declared.part.SimplePart.TheVariants as of_simple
 use Rattle.ops_reader.specs.declared.part.TestPart.{TestPart}
 use Rattle.ops_reader.specs.declared.part.TestPart.TheVariants as of_test
-use Rattle.ops_reader.specs.Token.{Token, OpenBrace, CloseBrace, Caret, OpenList, CloseList, Predicate}
+use Rattle.ops_tokens.specs.Token.{Token, OpenBrace, CloseBrace, Caret, OpenList, CloseList, Predicate}
 use Rattle.ops_reader.specs.Taken.{Taken, symbol_of, constant_of, argument_of, grown, made, around}
 
 -- a test by a predicate, where `=` makes it a plain one

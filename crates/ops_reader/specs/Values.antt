@@ -4,8 +4,8 @@ use Rattle.rule_base.specs.declared.value.Value.{Value}
 use Rattle.rule_base.specs.declared.value.Value.TheVariants as a_value
 use Rattle.ops_reader.specs.declared.form.FormArg.{FormArg}
 use Rattle.ops_reader.specs.declared.form.FormArg.TheVariants as an_argument
-use Rattle.ops_reader.specs.Token.{Caret, Integer}
-use Rattle.ops_reader.specs.Naming.{symbol_name, constant_name, literal_name, variable_name}
+use Rattle.ops_tokens.specs.Token.{Caret, Integer}
+use Rattle.ops_tokens.specs.Naming.{symbol_name, constant_name, literal_name, variable_name}
 use Rattle.ops_reader.specs.Phrase.{Phrase, ◌⨾◌, the, naming}
 
 -- a symbol, by its number

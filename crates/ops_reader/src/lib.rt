@@ -2,30 +2,22 @@
 //! bindings or firings.
 #![tactic(auto)]
 
-mod byte;
 mod form;
 mod forms;
 mod kind;
 pub mod laws;
 mod part;
 mod place;
-mod print;
 mod read;
 mod refusal;
-mod scan;
 mod slot;
 mod step;
 mod take;
-#[cfg(test)]
-mod tests;
-mod token;
-mod word;
 
 pub use form::{
     At, Form, FormAction, FormArg, FormCond, FormExpr, FormItem, FormOperand, FormTerm, Simple,
 };
 pub use forms::Forms;
 pub use place::form_place;
-pub use print::print_forms;
 pub use read::read_forms;
 pub use refusal::{FormsRefusal, SyntaxKind};

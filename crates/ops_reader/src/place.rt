@@ -3,12 +3,11 @@
 ghost use Rattle.std.specs.Prelude.{◌≡◌, ◌≤◌, ℕ, List, length};
 ghost use Rattle.ops_text.specs.Names.{Names};
 ghost use Rattle.ops_reader.specs.declared.form.Form.{Form};
-ghost use Rattle.ops_reader.specs.Tokens.{tokens_of};
+ghost use Rattle.ops_tokens.specs.Tokens.{tokens_of};
 ghost use Rattle.ops_reader.specs.Grammar.{IsText};
 ghost use Rattle.ops_reader.specs.FormPlace.{HasForm, IsFormPlace, Outside, skip, IsRest};
 
-use crate::scan::next_token;
-use crate::token::Token;
+use ops_tokens::{Token, next_token};
 
 /// The place of the form with this number, which is counted from 1: the byte of its opening bracket,
 /// counted from 0. It goes over the text once and takes no memory.

@@ -3,8 +3,8 @@
 ghost use Rattle.std.specs.Prelude.{◌≡◌, ◌≢◌, ◌↔◌, ◌+◌, ◌-◌, ◌^◌, ◌<◌, ◌≤◌, length, Some, IfOk, IfErr, IfSome, IfNone, IsTrue};
 ghost use Rattle.ops_text.specs.Names.{KeepsNumbers};
 ghost use Rattle.ops_reader.specs.declared.part.FormPart.TheVariants as of_form;
-ghost use Rattle.ops_reader.specs.Token.{seen};
-ghost use Rattle.ops_reader.specs.Tokens.{tokens_of};
+ghost use Rattle.ops_tokens.specs.Token.{seen};
+ghost use Rattle.ops_tokens.specs.Tokens.{tokens_of};
 ghost use Rattle.ops_reader.specs.Grammar.{IsText};
 ghost use Rattle.ops_reader.specs.Reading.{start, next, run};
 ghost use Rattle.ops_reader.specs.Outcome.{Grows, IsRefused, IsRefusedHere, TakesOne, reading};
@@ -12,12 +12,11 @@ ghost use Rattle.ops_reader.specs.Outcome.{Grows, IsRefused, IsRefusedHere, Take
 use crate::kind::kind_at;
 use crate::part::{FormPart, Progress, Step};
 use crate::refusal::TokenRefusal;
-use crate::scan::next_token;
 use crate::slot::form_slot;
 use crate::step::form_after;
-use crate::token::Token;
 use crate::{Form, Forms, FormsRefusal, SyntaxKind};
 use ops_text::{Sequence, Symbols};
+use ops_tokens::{Token, next_token};
 use std::alloc::Global;
 
 /// The forms of a text. Names get numbers in the order of their tokens. It goes over the text once.

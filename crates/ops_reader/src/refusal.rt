@@ -48,7 +48,7 @@ impl<T: Drop> From<AllocFailed<T>> for FormsRefusal {
 }
 
 /// Why a token isn't taken.
-#[derive(Clone, Copy, Debug, PartialEq, Eq)]
+#[derive(Clone, Copy)]
 pub(crate) enum TokenRefusal {
     /// No text of the grammar goes on with it.
     CannotStand,

@@ -9,7 +9,7 @@ use crate::part::{
 };
 
 /// What may stand next.
-#[derive(Clone, Copy, Debug, PartialEq, Eq)]
+#[derive(Clone, Copy)]
 pub(crate) enum Slot {
     /// A word of the grammar behind a bracket: a form, an action, a value or an item begins there.
     Head,

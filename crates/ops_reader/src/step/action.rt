@@ -2,7 +2,7 @@
 
 ghost use Rattle.std.specs.Prelude.{◌-◌, ◌^◌, ◌<◌, length};
 ghost use Rattle.ops_text.specs.Names.{Names};
-ghost use Rattle.ops_reader.specs.Token.{seen};
+ghost use Rattle.ops_tokens.specs.Token.{seen};
 ghost use Rattle.ops_reader.specs.ActionReading.{designator_of, action_head, make_after, modify_after, removed, remove_after, bind_after, write_after, action_after};
 ghost use Rattle.ops_reader.specs.Outcome.{Gives, Grows};
 
@@ -11,9 +11,9 @@ use super::term::{TermSets, term_after, term_sets_after};
 use crate::part::{ActionPart, ItemPart, Step, TermPart, TermSetPart};
 use crate::refusal::TokenRefusal;
 use crate::take::{symbol_of, variable_of};
-use crate::token::{Keyword, Token};
 use crate::{At, FormAction, FormItem};
 use ops_text::{Sequence, Symbols};
+use ops_tokens::{Keyword, Token};
 use std::alloc::Global;
 
 pub(crate) fn action_after(

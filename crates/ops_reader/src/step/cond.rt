@@ -1,7 +1,7 @@
 //! Condition elements: a pattern alone, behind a minus, or in braces with an element variable.
 
 ghost use Rattle.std.specs.Prelude.{◌≡◌, ◌-◌, ◌^◌, ◌<◌, length};
-ghost use Rattle.ops_reader.specs.Token.{seen};
+ghost use Rattle.ops_tokens.specs.Token.{seen};
 ghost use Rattle.ops_reader.specs.CondReading.{condition_of, plain_after, negated_after, named_after, unnamed_after, cond_begun, brace_begun, cond_after};
 ghost use Rattle.ops_reader.specs.Outcome.{Gives, Grows};
 
@@ -10,8 +10,8 @@ use crate::FormCond;
 use crate::part::{CondPart, Pattern, PatternPart, Step};
 use crate::refusal::TokenRefusal;
 use crate::take::variable_of;
-use crate::token::Token;
 use ops_text::Symbols;
+use ops_tokens::Token;
 use std::alloc::Global;
 
 pub(crate) fn cond_after(

@@ -2,16 +2,16 @@
 
 ghost use Rattle.std.specs.Prelude.{◌≡◌, ◌-◌, ◌^◌, ◌<◌, nat_lt, length, IfOk};
 ghost use Rattle.ops_text.specs.Names.{Names};
-ghost use Rattle.ops_reader.specs.Token.{seen};
+ghost use Rattle.ops_tokens.specs.Token.{seen};
 ghost use Rattle.ops_reader.specs.ExpressionReading.{operator_of, with_operand, operand_of, parenthesis_opened, operand_after, in_parentheses, closed, operator_after, expression_after};
 ghost use Rattle.ops_reader.specs.Outcome.{Gives, Grows};
 
 use crate::part::{Before, ExprPart, Inner, Step};
 use crate::refusal::TokenRefusal;
 use crate::take::variable_of;
-use crate::token::{Keyword, Token};
 use crate::{FormExpr, FormOperand};
 use ops_text::{OutOfMemory, Sequence, Symbols};
+use ops_tokens::{Keyword, Token};
 use rule_base::Op;
 use sqlite_items::{Boxed, Items};
 use std::alloc::Global;

@@ -1,8 +1,11 @@
 //! Forms.
 
-ghost use Rattle.std.specs.Prelude.{◌≡◌, ◌+◌, ◌-◌, ◌^◌, ◌<◌, ◌≤◌, length, IfOk};
+ghost use Rattle.std.specs.Prelude.{◌≡◌, ◌+◌, ◌-◌, ◌^◌, ◌<◌, ◌≤◌, [], ◌∷◌, ◌++◌, Some, length, IfOk};
 ghost use Rattle.ops_text.specs.Names.{Names};
-ghost use Rattle.ops_reader.specs.Token.{seen};
+ghost use Rattle.ops_tokens.specs.Token.{seen};
+ghost use Rattle.ops_reader.specs.declared.part.Step.TheVariants.{Part};
+ghost use Rattle.ops_reader.specs.declared.part.FormPart.TheVariants as of_form;
+ghost use Rattle.ops_reader.specs.declared.part.CondPart.TheVariants as of_cond;
 ghost use Rattle.ops_reader.specs.FormReading.{attrs_after, sets_after, arrow_after, conds_after, actions_after, form_head, strategy_after, watch_after, form_after};
 ghost use Rattle.ops_reader.specs.Outcome.{Gives, Grows};
 
@@ -12,9 +15,9 @@ use super::set::set_after;
 use crate::part::{ActionPart, CondPart, FormPart, SetPart, Step};
 use crate::refusal::TokenRefusal;
 use crate::take::{literal_of, number_up_to, symbol_of};
-use crate::token::{Keyword, Token};
 use crate::{Form, FormAction, FormCond};
 use ops_text::{Sequence, Symbols};
+use ops_tokens::{Keyword, Token};
 use rule_base::Value;
 use std::alloc::Global;
 
@@ -163,7 +166,7 @@ fn conds_after(
     alloc: Global,
     symbols: &mut Symbols,
     name: u32,
-    mut conds: Sequence<FormCond>,
+    conds: Sequence<FormCond>,
     cond: CondPart,
     token: Token,
 ) -> Result<Step<FormPart, Form>, TokenRefusal>
@@ -177,15 +180,25 @@ fn conds_after(
     }
     match cond_after(alloc, symbols, cond, token)? {
         Step::Part(cond) => Ok(Step::Part(FormPart::Conds { name, conds, cond })),
-        Step::Whole(whole) => {
-            conds.push(whole)?;
-            Ok(Step::Part(FormPart::Conds {
-                name,
-                conds,
-                cond: CondPart::Nothing,
-            }))
-        }
+        Step::Whole(whole) => cond_added(name, conds, whole),
     }
+}
+
+/// A condition element that is whole joins those before it, and takes no name.
+fn cond_added(
+    name: u32,
+    mut conds: Sequence<FormCond>,
+    whole: FormCond,
+) -> Result<Step<FormPart, Form>, TokenRefusal>
+    ensures { (names : Names) → Gives result names
+        (Some (names, Part (of_form.Conds name (conds ++ whole ∷ []) of_cond.Nothing))) }
+{
+    conds.push(whole)?;
+    Ok(Step::Part(FormPart::Conds {
+        name,
+        conds,
+        cond: CondPart::Nothing,
+    }))
 }
 
 /// The arrow takes no name.

@@ -2,7 +2,7 @@
 
 ghost use Rattle.std.specs.Prelude.{◌-◌, ◌^◌, ◌<◌, length};
 ghost use Rattle.ops_text.specs.Names.{Names};
-ghost use Rattle.ops_reader.specs.Token.{seen};
+ghost use Rattle.ops_tokens.specs.Token.{seen};
 ghost use Rattle.ops_reader.specs.ItemReading.{item_begun, item_head, item_after};
 ghost use Rattle.ops_reader.specs.Outcome.{Gives, Grows};
 
@@ -11,9 +11,9 @@ use super::term::{no_expression, value_of};
 use crate::part::{ItemPart, Step};
 use crate::refusal::TokenRefusal;
 use crate::take::number_up_to;
-use crate::token::{Keyword, Token};
 use crate::{FormItem, FormTerm};
 use ops_text::Symbols;
+use ops_tokens::{Keyword, Token};
 use std::alloc::Global;
 
 /// The last column that a `tabto` reaches, and the greatest width of an `rjust`.

@@ -1,15 +1,15 @@
 //! `^` and an attribute, before a value at the top level.
 
 ghost use Rattle.std.specs.Prelude.{◌-◌, ◌^◌, ◌<◌, length};
-ghost use Rattle.ops_reader.specs.Token.{seen};
+ghost use Rattle.ops_tokens.specs.Token.{seen};
 ghost use Rattle.ops_reader.specs.Taken.{set_after};
 ghost use Rattle.ops_reader.specs.Outcome.{Gives, Grows};
 
 use crate::part::SetPart;
 use crate::refusal::TokenRefusal;
 use crate::take::symbol_of;
-use crate::token::Token;
 use ops_text::Symbols;
+use ops_tokens::Token;
 use std::alloc::Global;
 
 pub(crate) fn set_after(

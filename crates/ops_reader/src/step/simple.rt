@@ -1,16 +1,16 @@
 //! One test: a constant or a variable, perhaps behind a predicate, or one of some constants.
 
 ghost use Rattle.std.specs.Prelude.{◌≡◌, ◌-◌, ◌^◌, ◌<◌, length};
-ghost use Rattle.ops_reader.specs.Token.{seen};
+ghost use Rattle.ops_tokens.specs.Token.{seen};
 ghost use Rattle.ops_reader.specs.TestReading.{compared_by, values_after, simple_begun, simple_after};
 ghost use Rattle.ops_reader.specs.Outcome.{Gives, Grows};
 
 use crate::part::{SimplePart, Step};
 use crate::refusal::TokenRefusal;
 use crate::take::{argument_of, constant_of};
-use crate::token::Token;
 use crate::{FormArg, Simple};
 use ops_text::{Sequence, Symbols};
+use ops_tokens::Token;
 use rule_base::{Pred, Value};
 use std::alloc::Global;
 

@@ -2,7 +2,7 @@
 
 ghost use Rattle.std.specs.Prelude.{◌≡◌, ◌-◌, ◌^◌, ◌<◌, length};
 ghost use Rattle.ops_text.specs.Names.{Names};
-ghost use Rattle.ops_reader.specs.Token.{seen};
+ghost use Rattle.ops_tokens.specs.Token.{seen};
 ghost use Rattle.ops_reader.specs.TermReading.{value_of, no_expression, term_begun, term_head, term_after, term_set_after, term_sets_after};
 ghost use Rattle.ops_reader.specs.Outcome.{Gives, Grows};
 
@@ -11,8 +11,8 @@ use crate::FormTerm;
 use crate::part::{Before, ExprPart, Inner, Step, TermPart, TermSetPart};
 use crate::refusal::TokenRefusal;
 use crate::take::{literal_of, symbol_of, variable_of};
-use crate::token::{Keyword, Token};
 use ops_text::{Sequence, Symbols};
+use ops_tokens::{Keyword, Token};
 use std::alloc::Global;
 
 /// A value of one token.

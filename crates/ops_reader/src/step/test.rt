@@ -1,7 +1,7 @@
 //! An attribute with its tests: one alone, or any in braces.
 
 ghost use Rattle.std.specs.Prelude.{◌-◌, ◌^◌, ◌<◌, length};
-ghost use Rattle.ops_reader.specs.Token.{seen};
+ghost use Rattle.ops_tokens.specs.Token.{seen};
 ghost use Rattle.ops_reader.specs.TestReading.{alone_after, braced_after, test_after};
 ghost use Rattle.ops_reader.specs.Outcome.{Gives, Grows};
 
@@ -10,8 +10,8 @@ use crate::Simple;
 use crate::part::{SimplePart, Step, TestPart};
 use crate::refusal::TokenRefusal;
 use crate::take::symbol_of;
-use crate::token::Token;
 use ops_text::{Sequence, Symbols};
+use ops_tokens::Token;
 use std::alloc::Global;
 
 pub(crate) fn test_after(

@@ -1,7 +1,7 @@
 -- One more token, and the end of the form.
 use Rattle.std.proofs.Common.{◌∷◌, sym, ap, ◌∙◌, refl, arith}
-use Rattle.ops_reader.specs.Token.{Close, seen}
-use Rattle.ops_reader.specs.Tokens.{tokens_of}
+use Rattle.ops_tokens.specs.Token.{Close, seen}
+use Rattle.ops_tokens.specs.Tokens.{tokens_of}
 use Rattle.ops_reader.specs.FormPlace.{skip}
 use Rattle.ops_reader.proofs.PassedLemmas.{state_of, passes_open, passes_last, passes_close, passes_other, seen_other, rest_same, rest_more}
 use Rattle.ops_reader.proofs.place.behind_form.Goals as goal

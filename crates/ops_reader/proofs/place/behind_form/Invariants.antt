@@ -1,6 +1,6 @@
 -- How far the first form has been passed over, by its open brackets, and that each bracket took a byte.
 use Rattle.std.proofs.Common.{◌≡◌, ◌+◌, ◌≤◌, length}
-use Rattle.ops_reader.specs.Tokens.{tokens_of}
+use Rattle.ops_tokens.specs.Tokens.{tokens_of}
 use Rattle.ops_reader.specs.FormPlace.{Outside, skip, IsRest}
 use Rattle.ops_reader.proofs.PassedLemmas.{state_of}
 use Rattle.ops_reader.proofs.place.behind_form.Given as goal

@@ -1,9 +1,9 @@
 -- The answers, from what has been read of the tokens.
 use Rattle.std.proofs.Common.{ap, length, arith}
 use Rattle.ops_reader.specs.declared.part.Progress.{Progress}
-use Rattle.ops_reader.specs.Tokens.{tokens_of}
+use Rattle.ops_tokens.specs.Tokens.{tokens_of}
 use Rattle.ops_reader.specs.Outcome.{reading}
-use Rattle.ops_reader.proofs.TokenCounts.{a_byte_each}
+use Rattle.ops_tokens.proofs.TokenCounts.{a_byte_each}
 use Rattle.ops_reader.proofs.FormShapes.{text_has_shape}
 use Rattle.ops_reader.proofs.ReadLemmas.{whole_is_text}
 use Rattle.ops_reader.proofs.Reached.{ends_early}

@@ -3,9 +3,9 @@ use Rattle.std.proofs.Common.{◌≡◌, List, length, sym, ap, subst, arith}
 use Rattle.std.proofs.lemmas.Result.{err_from_is_err_and}
 use Rattle.ops_reader.specs.declared.form.Form.{Form}
 use Rattle.ops_reader.specs.declared.part.FormPart.TheVariants as of_form
-use Rattle.ops_reader.specs.Token.{seen}
-use Rattle.ops_reader.specs.Tokens.{tokens_of}
-use Rattle.ops_reader.specs.Places.{lefts_of}
+use Rattle.ops_tokens.specs.Token.{seen}
+use Rattle.ops_tokens.specs.Tokens.{tokens_of}
+use Rattle.ops_tokens.specs.Places.{lefts_of}
 use Rattle.ops_reader.specs.Outcome.{reading}
 use Rattle.ops_reader.proofs.Reached.{HasReached, reached_nothing, reached_found, reached_more, refused_here}
 use Rattle.ops_reader.proofs.read.read_tokens.Goals as goal

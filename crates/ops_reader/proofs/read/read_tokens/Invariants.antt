@@ -1,8 +1,8 @@
 -- The tokens in front of the rest have been read, and each byte that is gone gave at most one name and one form.
 use Rattle.std.proofs.Common.{◌+◌, ◌≤◌, length}
 use Rattle.ops_text.specs.Names.{KeepsNumbers}
-use Rattle.ops_reader.specs.Tokens.{tokens_of}
-use Rattle.ops_reader.specs.Places.{lefts_of}
+use Rattle.ops_tokens.specs.Tokens.{tokens_of}
+use Rattle.ops_tokens.specs.Places.{lefts_of}
 use Rattle.ops_reader.specs.Outcome.{reading}
 use Rattle.ops_reader.proofs.Reached.{HasReached}
 use Rattle.ops_reader.proofs.read.read_tokens.Given as goal

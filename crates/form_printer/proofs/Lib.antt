@@ -1,0 +1,11 @@
+pub mod PrintLemmas
+pub mod WordKinds
+pub mod LexedLemmas
+pub mod NumberLemmas
+pub mod PrintedTokens
+pub mod ReadBack
+pub mod ReadBackValues
+pub mod ReadBackBrackets
+pub mod ReadBackConditions
+pub mod ReadBackActions
+pub mod RoundTripLemmas

@@ -1,7 +1,0 @@
--- The text so far is that of the things so far.
-use Rattle.std.proofs.Common.{◌≡◌, ◌++◌, take}
-use Rattle.ops_reader.specs.CanonicalValues.{spaced}
-use Rattle.ops_reader.proofs.print.print_spaced.Given as goal
-
-abbrev pub invariant-loop-thing : goal.invariant-loop-thing
-invariant-loop-thing g l = l.out.items ≡ l.fn.out.items ++ spaced (g.T.Print.text l.symbols) (take l.thing-index l.things)

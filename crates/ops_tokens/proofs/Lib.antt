@@ -1,0 +1,5 @@
+pub mod CutLemmas
+pub mod PlaceLemmas
+pub mod ShapeLemmas
+pub mod TokenCounts
+pub mod WordLemmas
