@@ -3,7 +3,6 @@
 ghost use Rattle.std.specs.Prelude.{◌≡◌, ◌≤◌, Ok, length, IfOk, OnOk, IfErr};
 ghost use Rattle.rule_base.specs.declared.program.Program.{Program};
 ghost use Rattle.rule_base.specs.Sound.{IsSound};
-ghost use Rattle.ops_reader.specs.declared.form.Form.TheVariants as form;
 ghost use Rattle.ops_reader.specs.Named.{numbers_in_form};
 ghost use Rattle.rule_checker.specs.Outcome.{Tells, TellsForm};
 ghost use Rattle.rule_checker.specs.Scope.{no_variables};
@@ -14,14 +13,14 @@ use crate::classes::Classes;
 use crate::makes::make_of;
 use crate::refusal::{CheckRefusal, Refusal};
 use crate::rules::Rules;
-use ops_reader::{Form, FormAction, FormCond, Forms};
+use ops_reader::{Form, Forms};
 use ops_text::Sequence;
 use rule_base::{Program, Value};
 use std::alloc::Global;
 use std::marker::Model;
 
 /// The program of the forms so far.
-#[derive(Debug, Drop)]
+#[derive(Drop)]
 struct Declarations {
     classes: Classes,
     rules: Rules,
@@ -51,63 +50,39 @@ impl Declarations {
         }
     }
 
-    fn with_make(
-        mut self,
-        alloc: Global,
-        class: u32,
-        sets: &[(u32, Value)],
-    ) -> Result<Declarations, Refusal>
-        ensures ok { IfOk result (λ next. with_make self class sets.now ≡ Ok next) }
-        ensures refused { IfErr result (Tells (with_make self class sets.now)) }
+    fn add_make(&mut self, alloc: Global, class: u32, sets: &[(u32, Value)]) -> Result<(), Refusal>
+        ensures ok { OnOk result (with_make self.old class sets.now ≡ Ok self.new) }
+        ensures refused { IfErr result (Tells (with_make self.old class sets.now)) }
     {
         let make = make_of(alloc, &self.classes, class, sets)?;
         self.makes.push(make)?;
-        Ok(self)
+        Ok(())
     }
 
-    fn with_class(self, alloc: Global, name: u32, attrs: &[u32]) -> Result<Declarations, Refusal>
-        ensures ok { IfOk result
-            (λ next. with_form self (form.Literalize name attrs.now) ≡ Ok next) }
-        ensures refused { IfErr result (Tells (with_form self (form.Literalize name attrs.now))) }
-    {
-        let classes = self.classes.with_class(alloc, name, attrs)?;
-        Ok(Declarations { classes, ..self })
-    }
-
-    fn with_rule(
-        self,
-        alloc: Global,
-        name: u32,
-        conds: &[FormCond],
-        actions: &[FormAction],
-    ) -> Result<Declarations, Refusal>
-        requires room { HasRoom no_variables (numbers_in_form (form.P name conds.now actions.now)) }
-        ensures ok { IfOk result
-            (λ next. with_form self (form.P name conds.now actions.now) ≡ Ok next) }
-        ensures refused { IfErr result
-            (Tells (with_form self (form.P name conds.now actions.now))) }
-    {
-        let rules = self
-            .rules
-            .with_rule(alloc, &self.classes, name, conds, actions)?;
-        Ok(Declarations { rules, ..self })
-    }
-
-    fn with_form(self, alloc: Global, form: &Form) -> Result<Declarations, Refusal>
+    /// Adds what a form declares. After a refusal the program is good for nothing.
+    fn add_form(&mut self, alloc: Global, form: &Form) -> Result<(), Refusal>
         requires room { HasRoom no_variables (numbers_in_form form.now) }
-        ensures ok { IfOk result (λ next. with_form self form.now ≡ Ok next) }
-        ensures refused { IfErr result (Tells (with_form self form.now)) }
+        ensures ok { OnOk result (with_form self.old form.now ≡ Ok self.new) }
+        ensures refused { IfErr result (Tells (with_form self.old form.now)) }
     {
         match form {
-            Form::Literalize { class, attrs } => self.with_class(alloc, *class, attrs.as_slice()),
+            Form::Literalize { class, attrs } => {
+                self.classes.add_class(alloc, *class, attrs.as_slice())
+            }
             Form::P {
                 name,
                 conds,
                 actions,
-            } => self.with_rule(alloc, *name, conds.as_slice(), actions.as_slice()),
-            Form::Make { class, sets } => self.with_make(alloc, *class, sets.as_slice()),
-            Form::Strategy { .. } => Ok(self),
-            Form::Watch { .. } => Ok(self),
+            } => self.rules.add_rule(
+                alloc,
+                &self.classes,
+                *name,
+                conds.as_slice(),
+                actions.as_slice(),
+            ),
+            Form::Make { class, sets } => self.add_make(alloc, *class, sets.as_slice()),
+            Form::Strategy { .. } => Ok(()),
+            Form::Watch { .. } => Ok(()),
         }
     }
 
@@ -133,9 +108,8 @@ pub fn check(alloc: Global, forms: &Forms) -> Result<Program, CheckRefusal>
     let mut declarations = Declarations::new(alloc);
     let mut checked = 0;
     for form in forms.as_slice() {
-        match declarations.with_form(alloc, form) {
-            Ok(next) => declarations = next,
-            Err(refusal) => return Err(refusal.at(checked + 1)),
+        if let Err(refusal) = declarations.add_form(alloc, form) {
+            return Err(refusal.at(checked + 1));
         }
         checked += 1;
     }

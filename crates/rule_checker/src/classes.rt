@@ -22,9 +22,9 @@ const MOST_CLASSES: usize = 256;
 const MOST_ATTRIBUTES: usize = 64;
 
 /// The classes so far, each of which is found by its name.
-#[derive(Debug, Drop)]
+#[derive(Drop)]
 pub struct Classes {
-    classes: Sequence<Class>,
+    classes: Vec<Class>,
     names: Names,
 }
 
@@ -35,9 +35,9 @@ impl Model for Classes {
 
     ghost Value = { List Class };
 
-    ghost view = { λ c. c.classes };
+    ghost view = { λ c. c.classes.items };
 
-    ghost invariant = { λ c. IsClassTable c.names c.classes };
+    ghost invariant = { λ c. IsClassTable c.names c.classes.items };
 }
 
 impl Classes {
@@ -45,7 +45,7 @@ impl Classes {
         ensures { result ≡ [] }
     {
         Classes {
-            classes: Sequence::new(alloc),
+            classes: Vec::new(alloc),
             names: Names::new(alloc),
         }
     }
@@ -68,21 +68,18 @@ impl Classes {
         Ok(())
     }
 
-    /// The classes with one more.
-    pub fn with_class(self, alloc: Global, name: u32, attrs: &[u32]) -> Result<Classes, Refusal>
-        ensures ok { IfOk result (λ next. with_class self name attrs.now ≡ Ok next) }
-        ensures refused { IfErr result (Tells (with_class self name attrs.now)) }
+    /// Adds a class.
+    pub fn add_class(&mut self, alloc: Global, name: u32, attrs: &[u32]) -> Result<(), Refusal>
+        ensures ok { OnOk result (with_class self.old name attrs.now ≡ Ok self.new) }
+        ensures refused { IfErr result (Tells (with_class self.old name attrs.now)) }
     {
         self.not_yet_declared(name)?;
         self.few_classes()?;
         let attrs = own_attributes(alloc, attrs)?;
-        let Classes {
-            mut classes,
-            mut names,
-        } = self;
-        names.add(name)?;
-        classes.push(Class { name, attrs })?;
-        Ok(Classes { classes, names })
+        self.classes.reserve(1)?;
+        self.names.add(name)?;
+        self.classes.push_reserved(Class { name, attrs });
+        Ok(())
     }
 
     /// The number of the class of this name.
@@ -108,7 +105,7 @@ impl Classes {
     pub fn into_list(self) -> Sequence<Class>
         ensures { result ≡ self }
     {
-        self.classes
+        Sequence::from_vec(self.classes)
     }
 }
 

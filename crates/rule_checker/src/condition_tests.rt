@@ -21,7 +21,7 @@ use rule_base::{Arg, Pred, Test, Value};
 use std::alloc::Global;
 
 /// The tests of a condition element so far, and the rule's variables behind them.
-#[derive(Debug, Drop)]
+#[derive(Drop)]
 pub struct TestsSoFar {
     pub tests: Sequence<Test>,
     pub scope: Scope,

@@ -24,14 +24,14 @@ const MOST_CONDS: usize = 32;
 
 /// The elements that a rule's positive condition elements match: their classes in order, and for each element
 /// variable which of them it names, counted from 0.
-#[derive(Debug, Drop)]
+#[derive(Drop)]
 pub struct Elements {
     pub classes: Sequence<u32>,
     pub names: Numbering,
 }
 
 /// The condition elements of a rule so far, its variables, and the elements that its actions may designate.
-#[derive(Debug, Drop)]
+#[derive(Drop)]
 pub struct LeftSide {
     pub conds: Sequence<Cond>,
     pub scope: Scope,

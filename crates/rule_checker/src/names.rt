@@ -1,6 +1,6 @@
 //! Names that are found without a search through all of them.
 
-ghost use Rattle.std.specs.Prelude.{◌≡◌, None, [], ◌∷◌, ◌++◌, length, OnOk};
+ghost use Rattle.std.specs.Prelude.{◌≡◌, None, [], ◌∷◌, ◌++◌, length, OnOk, OnErr};
 ghost use Rattle.rule_checker.specs.Names.{number_in, number_of};
 
 use indexmap::{IndexMap, IndexSet};
@@ -9,7 +9,7 @@ use std::alloc::Global;
 use std::marker::Model;
 
 /// Distinct names in the order in which they came. A name's number is its place, from 0.
-#[derive(Debug, Drop)]
+#[derive(Drop)]
 pub struct Names {
     names: IndexSet<u32>,
 }
@@ -41,7 +41,8 @@ impl Names {
     /// Adds a name that is not there.
     pub fn add(&mut self, name: u32) -> Result<(), OutOfMemory>
         requires { number_in self.old name ≡ None }
-        ensures { OnOk result (self.new ≡ self.old ++ name ∷ []) }
+        ensures ok { OnOk result (self.new ≡ self.old ++ name ∷ []) }
+        ensures err { OnErr result (self.new ≡ self.old) }
     {
         self.names.insert(name)?;
         Ok(())
@@ -49,7 +50,7 @@ impl Names {
 }
 
 /// Distinct names in the order in which they came, each with a number.
-#[derive(Debug, Drop)]
+#[derive(Drop)]
 pub struct Numbering {
     numbers: IndexMap<u32, u32>,
 }

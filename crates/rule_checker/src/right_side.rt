@@ -25,7 +25,7 @@ use std::alloc::Global;
 const MOST_ACTIONS: usize = 64;
 
 /// The actions of a rule so far, and the rule's variables behind them.
-#[derive(Debug, Drop)]
+#[derive(Drop)]
 pub struct RightSide {
     pub actions: Sequence<Action>,
     pub scope: Scope,

@@ -23,9 +23,9 @@ use std::marker::Model;
 const MOST_RULES: usize = 4096;
 
 /// The rules so far.
-#[derive(Debug, Drop)]
+#[derive(Drop)]
 pub struct Rules {
-    rules: Sequence<Rule>,
+    rules: Vec<Rule>,
     names: Names,
 }
 
@@ -40,9 +40,9 @@ impl Model for Rules {
 
     ghost coded = { Prim.hlevel (codes, operand.the_row.coded) };
 
-    ghost view = { λ r. r.rules };
+    ghost view = { λ r. r.rules.items };
 
-    ghost invariant = { λ r. r.names ≡ rule_names r.rules };
+    ghost invariant = { λ r. r.names ≡ rule_names r.rules.items };
 }
 
 fn checked_rule(
@@ -74,7 +74,7 @@ impl Rules {
         ensures { result ≡ [] }
     {
         Rules {
-            rules: Sequence::new(alloc),
+            rules: Vec::new(alloc),
             names: Names::new(alloc),
         }
     }
@@ -97,37 +97,34 @@ impl Rules {
         Ok(())
     }
 
-    /// The rules with one more.
-    pub fn with_rule(
-        self,
+    /// Adds a rule.
+    pub fn add_rule(
+        &mut self,
         alloc: Global,
         classes: &Classes,
         name: u32,
         conds: &[FormCond],
         actions: &[FormAction],
-    ) -> Result<Rules, Refusal>
+    ) -> Result<(), Refusal>
         requires room { HasRoom no_variables (numbers_in_form (form.P name conds.now actions.now)) }
-        ensures ok { IfOk result
-            (λ next. with_rule classes.now self name conds.now actions.now ≡ Ok next) }
+        ensures ok { OnOk result
+            (with_rule classes.now self.old name conds.now actions.now ≡ Ok self.new) }
         ensures refused { IfErr result
-            (Tells (with_rule classes.now self name conds.now actions.now)) }
+            (Tells (with_rule classes.now self.old name conds.now actions.now)) }
     {
         self.new_rule_name(name)?;
         self.few_rules()?;
         let rule = checked_rule(alloc, classes, name, conds, actions)?;
-        let Rules {
-            mut rules,
-            mut names,
-        } = self;
-        names.add(name)?;
-        rules.push(rule)?;
-        Ok(Rules { rules, names })
+        self.rules.reserve(1)?;
+        self.names.add(name)?;
+        self.rules.push_reserved(rule);
+        Ok(())
     }
 
     /// The list of the rules.
     pub fn into_list(self) -> Sequence<Rule>
         ensures { result ≡ self }
     {
-        self.rules
+        Sequence::from_vec(self.rules)
     }
 }

@@ -12,7 +12,7 @@ use std::alloc::Global;
 /// The variables that can be used at a place of a rule, each with its number: those that positive condition
 /// elements and binds have bound, and those that the negated condition element has bound in which the place lies.
 /// `vars` counts all variables of the rule so far.
-#[derive(Debug, Drop)]
+#[derive(Drop)]
 pub struct Scope {
     pub bound: Numbering,
     pub local: Numbering,

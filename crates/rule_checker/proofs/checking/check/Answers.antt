@@ -11,8 +11,8 @@ use Rattle.rule_checker.proofs.CheckedLemmas.{checked-sound}
 use Rattle.rule_checker.proofs.MakeLemmas.{checked-makes}
 use Rattle.rule_checker.proofs.checking.check.Goals as goal
 
-pub with_form-requires : goal.with_form-requires
-with_form-requires c =
+pub add_form-requires : goal.add_form-requires
+add_form-requires c =
     let forms = c.as_slice-form-items.ensures.forms in
     let within = names-within c.as_slice-form-items.result.now c.loop-form.form-index c.form-item.result c.form-item.is c.loop-form-test.true in
     record { room = omega (arith, within, ap (λ fs. length (flat_map numbers_in_form fs)) forms, c.as_slice-form-items.ensures.shape.few_names) }
