@@ -9,7 +9,7 @@ use Rattle.ops_text.specs.Names.{Names}
 use Rattle.ops_text.specs.Faults.{Rose}
 use Rattle.ops_reader.specs.declared.form.Form.{Form}
 use Rattle.ops_reader.specs.declared.refusal.SyntaxKind.{SyntaxKind}
-use Rattle.ops_reader.specs.Tokens.{tokens_of}
+use Rattle.ops_tokens.specs.Tokens.{tokens_of}
 use Rattle.ops_reader.specs.Grammar.{IsText}
 use Rattle.ops_reader.specs.Refusal.{IsRefusedAt}
 use Rattle.rule_checker.specs.Forms.{Violation}

@@ -1,7 +1,7 @@
 -- The empty text is that of no forms, and so a program without a memory file opens alone.
 use Rattle.std.proofs.Common.{◌≡◌, ℕ, List, [], Option, None, refl, sym, ap, ◌∙◌, subst, inl, inr}
 use Rattle.ops_text.specs.Names.{Names}
-use Rattle.ops_reader.specs.Tokens.{tokens_of}
+use Rattle.ops_tokens.specs.Tokens.{tokens_of}
 use Rattle.ops_reader.specs.Grammar.{IsText}
 use Rattle.rule_checker.specs.Opening.{opening_list}
 use Rattle.ops_command.specs.Account.{Account}

@@ -2,7 +2,7 @@
 use Rattle.std.proofs.Common.{ℕ, List, Result, inl, inr, refl}
 use Rattle.ops_text.specs.Names.{Names}
 use Rattle.ops_reader.specs.declared.form.Form.{Form}
-use Rattle.ops_reader.specs.Tokens.{tokens_of}
+use Rattle.ops_tokens.specs.Tokens.{tokens_of}
 use Rattle.ops_reader.specs.Grammar.{IsText}
 use Rattle.rule_checker.specs.declared.refusal.CheckRefusal.{CheckRefusal}
 use Rattle.rule_checker.specs.declared.refusal.CheckRefusal.TheVariants as check_refusal

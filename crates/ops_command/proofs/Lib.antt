@@ -10,3 +10,4 @@ pub mod EmptyTextLemmas
 pub mod AnswerLemmas
 pub mod DecidedLemmas
 pub mod PromiseLemmas
+pub mod DecidedLaw

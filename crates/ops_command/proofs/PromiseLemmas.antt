@@ -9,7 +9,7 @@ use Rattle.ops_command.specs.declared.status.FileKind.TheVariants as file
 use Rattle.ops_command.specs.Words.{Asked}
 use Rattle.ops_command.specs.Call.{Files, Call}
 use Rattle.ops_command.specs.Account.{Account, refusal}
-use Rattle.ops_command.specs.FileBytes.{IsUnread}
+use Rattle.ops_command.specs.FileBytes.{IsUnread, HidesNoReadFault}
 use Rattle.ops_command.specs.ProgramText.{NamedProgram, IsFaultyProgram}
 use Rattle.ops_command.specs.ProgramFile.{IsRefusedProgram}
 use Rattle.ops_command.specs.MemoryText.{IsFaultyMemory}
@@ -17,7 +17,7 @@ use Rattle.ops_command.specs.MemoryFile.{IsRefusedMemory}
 use Rattle.ops_command.specs.Ran.{Start, Ran}
 use Rattle.ops_command.specs.Answer.{IsSaidOfProgram, IsSaidOf, IsSaidOfWords, IsSaid, IsAnswer}
 use Rattle.ops_command.specs.Promise.{KeepsPromise}
-use Rattle.ops_command.proofs.DecidedLemmas.{under, IsDecided-said}
+use Rattle.ops_command.proofs.DecidedLemmas.{under}
 
 -- a status that can be said: not that of a fault of writing, nor of want of memory
 abbrev can_be_said : Status → Bool
@@ -73,20 +73,19 @@ words_can_be_said : (words : List (List ℕ)) (files : Files) (account : Account
 words_can_be_said words files account (inl usage) = refusal_said account (status.Usage usage.kind) refl usage.said
 words_can_be_said words files account (inr asks) = asked_can_be_said files asks.asked account asks.holds
 
-IsAnswer-written : (call : Call) (report : Report) (text : List ℕ) (said : Status) → IsSaid call report text said → Extends call.output.held call.output.held_after text → IsAnswer call report said
-IsAnswer-written call report text status.Quiet says written = record { text = text; is_said = says; written = written }
-IsAnswer-written call report text (status.Usage kind) says written = record { text = text; is_said = says; written = written }
-IsAnswer-written call report text (status.Spent n) says written = record { text = text; is_said = says; written = written }
-IsAnswer-written call report text (status.ReadFault kind) says written = record { text = text; is_said = says; written = written }
-IsAnswer-written call report text status.WriteFault says written = absurd (true≢false (sym (words_can_be_said call.words call.files _ says)))
-IsAnswer-written call report text (status.TooLong kind) says written = record { text = text; is_said = says; written = written }
-IsAnswer-written call report text (status.Syntax kind at why) says written = record { text = text; is_said = says; written = written }
-IsAnswer-written call report text (status.Check kind form why) says written = record { text = text; is_said = says; written = written }
-IsAnswer-written call report text (status.NotBuilt at) says written = record { text = text; is_said = says; written = written }
-IsAnswer-written call report text status.OutOfMemory says written = absurd (true≢false (sym (words_can_be_said call.words call.files _ says)))
+IsAnswer-written : (call : Call) (report : Report) (text : List ℕ) (said : Status) → IsSaid call report text said → Extends call.output.held call.output.held_after text
+    → HidesNoReadFault call.files.faults call.files.faults_after said → call.output.faults_after ≡ call.output.faults → IsAnswer call report said
+IsAnswer-written call report text status.Quiet says written read no_fault = record { text = text; is_said = says; written = written; read = read; no_fault = no_fault }
+IsAnswer-written call report text (status.Usage kind) says written read no_fault = record { text = text; is_said = says; written = written; read = read; no_fault = no_fault }
+IsAnswer-written call report text (status.Spent n) says written read no_fault = record { text = text; is_said = says; written = written; read = read; no_fault = no_fault }
+IsAnswer-written call report text (status.ReadFault kind) says written read no_fault = record { text = text; is_said = says; written = written; read = read; no_fault = no_fault }
+IsAnswer-written call report text status.WriteFault says written read no_fault = absurd (true≢false (sym (words_can_be_said call.words call.files _ says)))
+IsAnswer-written call report text (status.TooLong kind) says written read no_fault = record { text = text; is_said = says; written = written; read = read; no_fault = no_fault }
+IsAnswer-written call report text (status.Syntax kind at why) says written read no_fault = record { text = text; is_said = says; written = written; read = read; no_fault = no_fault }
+IsAnswer-written call report text (status.Check kind form why) says written read no_fault = record { text = text; is_said = says; written = written; read = read; no_fault = no_fault }
+IsAnswer-written call report text (status.NotBuilt at) says written read no_fault = record { text = text; is_said = says; written = written; read = read; no_fault = no_fault }
+IsAnswer-written call report text status.OutOfMemory says written read no_fault = absurd (true≢false (sym (words_can_be_said call.words call.files _ says)))
 
-pub KeepsPromise-written : (call : Call) (report : Report) (text : List ℕ) → IsSaid call report text report.status → Extends call.output.held call.output.held_after text → KeepsPromise call report
-KeepsPromise-written call report text says written = record {
-  caused = IsAnswer-written call report text report.status says written;
-  decided = λ calm. IsDecided-said call _ calm says;
-}
+pub KeepsPromise-written : (call : Call) (report : Report) (text : List ℕ) → IsSaid call report text report.status → Extends call.output.held call.output.held_after text
+    → HidesNoReadFault call.files.faults call.files.faults_after report.status → call.output.faults_after ≡ call.output.faults → KeepsPromise call report
+KeepsPromise-written call report text says written read no_fault = record { caused = IsAnswer-written call report text report.status says written read no_fault }

@@ -8,6 +8,7 @@ use Rattle.ops_command.specs.declared.status.Status.TheVariants as status
 use Rattle.ops_command.specs.declared.status.Report.{Report}
 use Rattle.ops_command.specs.Words.{Asked, asked_by, AsksFor}
 use Rattle.ops_command.specs.Call.{Files, Call}
+use Rattle.ops_command.specs.FileBytes.{HidesNoReadFault}
 use Rattle.ops_command.specs.Findings.{findings_of, no_findings}
 use Rattle.ops_command.specs.Account.{Account, refusal}
 use Rattle.ops_command.specs.ProgramText.{NamedProgram}
@@ -50,11 +51,13 @@ IsSaidOfWords words files account = IsUsage words account ⊎ AsksFor words (λ 
 abbrev pub IsSaid : Call → Report → List ℕ → Status → Type 0
 IsSaid call report text said = IsSaidOfWords call.words call.files (record { status = said; found = findings_of report; text = text })
 
--- all was said: the output grew by just the text
+-- all was said: the output grew by just the text, and no fault is hidden
 pub record IsWritten (call : Call) (report : Report) (said : Status) : Type 0 where
   pub text : List ℕ
   pub is_said : IsSaid call report text said
   pub written : Extends call.output.held call.output.held_after text
+  pub read : HidesNoReadFault call.files.faults call.files.faults_after said
+  pub no_fault : call.output.faults_after ≡ call.output.faults
 
 -- the output failed: its count of faults rose, and a part of the text that was to be written was
 pub record IsWriteFault (call : Call) (report : Report) : Type 0 where
@@ -63,10 +66,12 @@ pub record IsWriteFault (call : Call) (report : Report) : Type 0 where
   pub is_said : IsSaid call report text said
   pub part : ExtendsInPart call.output.held call.output.held_after text
   pub fault : Rose call.output.faults call.output.faults_after
+  pub read : HidesNoReadFault call.files.faults call.files.faults_after said
 
 -- memory ran out: nothing was written, and the report is that of no run
 pub record IsOutOfMemory (call : Call) (report : Report) : Type 0 where
   pub unwritten : call.output.held_after ≡ call.output.held
+  pub no_fault : call.output.faults_after ≡ call.output.faults
   pub nothing : findings_of report ≡ no_findings
 
 -- the report, under this status, answers the call

@@ -1,10 +1,11 @@
--- When each answer comes: for a call in which no count of faults rose, the words and the files decide.
+-- When each answer comes: for a call in which no count of faults rose, the words and the files decide. That this is so is a law of
+-- the promise.
 use Rattle.std.specs.Prelude.{◌≡◌, ℕ, ◌<◌, ◌≤◌, ◌⊎◌, List, Some, Result, Ok, Err, length}
 use Rattle.ops_text.specs.Names.{Names}
 use Rattle.ops_text.specs.Faults.{Rose}
 use Rattle.ops_reader.specs.declared.form.Form.{Form}
 use Rattle.ops_reader.specs.declared.refusal.SyntaxKind.{SyntaxKind}
-use Rattle.ops_reader.specs.Tokens.{tokens_of}
+use Rattle.ops_tokens.specs.Tokens.{tokens_of}
 use Rattle.ops_reader.specs.Grammar.{IsText}
 use Rattle.ops_reader.specs.Refusal.{IsRefusedAt}
 use Rattle.rule_checker.specs.Forms.{Violation}

@@ -3,6 +3,7 @@ use Rattle.std.specs.Prelude.{◌≡◌, ◌⊎◌, ℕ, ◌<◌, ◌≤◌, Lis
 use Rattle.std.specs.Option.{ForSome}
 use Rattle.ops_text.specs.Faults.{Rose}
 use Rattle.ops_command.specs.declared.status.FileKind.{FileKind}
+use Rattle.ops_command.specs.declared.status.Status.{Status}
 use Rattle.ops_command.specs.declared.status.Status.TheVariants as status
 use Rattle.ops_command.specs.Call.{Files}
 use Rattle.ops_command.specs.Account.{Account, refusal}
@@ -31,6 +32,14 @@ pub record IsReadFault (files : Files) (name : List ℕ) (kind : FileKind) (acco
 pub record IsTooLong (files : Files) (name : List ℕ) (kind : FileKind) (account : Account) : Type 0 where
   pub long : ForSome (files.told name) (λ file. most_bytes < length file)
   pub said : account ≡ refusal (status.TooLong kind)
+
+-- the status tells that a file can't be read
+abbrev pub TellsReadFault : Status → Type 0
+TellsReadFault said = (kind : FileKind) × (said ≡ status.ReadFault kind)
+
+-- under this status no fault of reading is hidden: it tells of one, or the counts of faults are as before
+abbrev pub HidesNoReadFault : (List ℕ → ℕ) → (List ℕ → ℕ) → Status → Type 0
+HidesNoReadFault before after said = TellsReadFault said ⊎ (after ≡ before)
 
 -- there are no bytes to go on with
 abbrev pub IsUnread : Files → List ℕ → FileKind → Account → Type 0

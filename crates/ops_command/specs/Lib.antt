@@ -2,6 +2,7 @@
 pub mod Call
 pub mod Promise
 pub mod Answer
+-- when each answer comes: a law of that
 pub mod Decided
 -- a stage each: the words, the files, their texts, the run
 pub mod Words

@@ -3,7 +3,7 @@ use Rattle.std.specs.Prelude.{◌≡◌, ◌⊎◌, ℕ, List, Ok}
 use Rattle.rule_base.specs.Memory.{Memory}
 use Rattle.ops_text.specs.Names.{Names}
 use Rattle.ops_reader.specs.declared.form.Form.{Form}
-use Rattle.ops_reader.specs.Tokens.{tokens_of}
+use Rattle.ops_tokens.specs.Tokens.{tokens_of}
 use Rattle.ops_reader.specs.Grammar.{IsText}
 use Rattle.rule_checker.specs.Opening.{opening_list}
 use Rattle.ops_command.specs.declared.status.FileKind.TheVariants as file

@@ -6,7 +6,7 @@ use Rattle.rule_base.specs.Thin.{is_thin_rule}
 use Rattle.ops_text.specs.Names.{Names}
 use Rattle.ops_reader.specs.declared.form.Form.{Form}
 use Rattle.ops_reader.specs.declared.form.Form.TheVariants as form
-use Rattle.ops_reader.specs.Tokens.{tokens_of}
+use Rattle.ops_tokens.specs.Tokens.{tokens_of}
 use Rattle.ops_reader.specs.Grammar.{IsText}
 use Rattle.ops_reader.specs.FormPlace.{IsFormPlace}
 use Rattle.rule_checker.specs.Checked.{checked}

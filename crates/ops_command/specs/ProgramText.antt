@@ -4,7 +4,7 @@ use Rattle.rule_base.specs.declared.program.Program.{Program}
 use Rattle.rule_base.specs.Thin.{is_thin}
 use Rattle.ops_text.specs.Names.{Names}
 use Rattle.ops_reader.specs.declared.form.Form.{Form}
-use Rattle.ops_reader.specs.Tokens.{tokens_of}
+use Rattle.ops_tokens.specs.Tokens.{tokens_of}
 use Rattle.ops_reader.specs.Grammar.{IsText}
 use Rattle.rule_checker.specs.Checked.{checked}
 use Rattle.ops_command.specs.declared.status.FileKind.TheVariants as file

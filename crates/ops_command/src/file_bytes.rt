@@ -1,9 +1,9 @@
 //! The bytes of a file, or the reason why there are none.
 
-ghost use Rattle.std.specs.Prelude.{◌≡◌, ◌≤◌, ℕ, List, IfOk, IfErr};
+ghost use Rattle.std.specs.Prelude.{◌≡◌, ◌≤◌, ℕ, List, OnOk, IfOk, IfErr};
 ghost use Rattle.ops_command.specs.Call.{files_between};
 ghost use Rattle.ops_command.specs.Account.{IsRefusal};
-ghost use Rattle.ops_command.specs.FileBytes.{AreBytesOf, IsUnread};
+ghost use Rattle.ops_command.specs.FileBytes.{AreBytesOf, IsUnread, HidesNoReadFault};
 
 use crate::status::{FileKind, Status};
 use ops_text::{ReadRefusal, Shelf, read_all};
@@ -23,6 +23,8 @@ pub fn read_file<F: Shelf>(
     ensures unread { IfErr result (IsRefusal (IsUnread
         (files_between F.told F.faults shelf.old shelf.new)
         name.now file)) }
+    ensures no_fault { OnOk result (F.faults shelf.new ≡ F.faults shelf.old) }
+    ensures counted { IfErr result (HidesNoReadFault (F.faults shelf.old) (F.faults shelf.new)) }
 
     // Whatever the answer, the files and what is told of them stay.
     ensures same { F.told shelf.new ≡ F.told shelf.old }

@@ -4,6 +4,7 @@
 
 mod command;
 mod file_bytes;
+pub mod laws;
 mod memory_file;
 mod page;
 mod plan;
@@ -12,8 +13,6 @@ mod refusals;
 mod run;
 mod run_report;
 mod status;
-#[cfg(test)]
-mod tests;
 mod text;
 mod thin;
 mod unbuilt;

@@ -1,12 +1,12 @@
 //! The opening memory of a run, or the reason why there is none.
 
-ghost use Rattle.std.specs.Prelude.{◌≡◌, ◌+◌, ◌^◌, ◌<◌, ◌≤◌, ℕ, List, length, IfOk, IfErr};
+ghost use Rattle.std.specs.Prelude.{◌≡◌, ◌+◌, ◌^◌, ◌<◌, ◌≤◌, ℕ, List, length, OnOk, IfOk, IfErr};
 ghost use Rattle.std.specs.Option.{option_copied};
 ghost use Rattle.rule_base.specs.Opening.{IsOpening};
 ghost use Rattle.rule_base.specs.Sound.{IsSound, sizes_of};
 ghost use Rattle.ops_command.specs.Call.{files_between};
 ghost use Rattle.ops_command.specs.Account.{IsRefusal};
-ghost use Rattle.ops_command.specs.FileBytes.{most_bytes};
+ghost use Rattle.ops_command.specs.FileBytes.{most_bytes, HidesNoReadFault};
 ghost use Rattle.ops_command.specs.MemoryText.{Opens, IsFaultyMemory};
 ghost use Rattle.ops_command.specs.MemoryFile.{GivesOpening, IsRefusedMemory};
 
@@ -35,6 +35,8 @@ pub fn read_opening<F: Shelf>(
     ensures refused { IfErr result (IsRefusal (IsRefusedMemory
         (files_between F.told F.faults shelf.old shelf.new)
         (option_copied name.entry) (record { program = program.now; names = symbols.old }))) }
+    ensures no_fault { OnOk result (F.faults shelf.new ≡ F.faults shelf.old) }
+    ensures counted { IfErr result (HidesNoReadFault (F.faults shelf.old) (F.faults shelf.new)) }
     ensures opening { IfOk result (IsOpening (sizes_of program.now.classes)) }
 {
     match name {

@@ -17,7 +17,7 @@ use std::marker::Model;
 
 /// The text so far with its last column; glue, which keeps the next value from getting a space before
 /// it; and the width that the next value is to fill.
-#[derive(Debug, Drop)]
+#[derive(Drop)]
 struct Page {
     bytes: Vec<u8>,
     column: usize,

@@ -1,7 +1,7 @@
 //! What a call is to say. All of it is made before its first byte is written, a layer at a time: the words, the program
 //! file, the memory file, the run.
 
-ghost use Rattle.std.specs.Prelude.{◌≡◌, ◌+◌, ◌^◌, ◌<◌, ◌≤◌, ℕ, List, true, length, map, IfOk, IfErr};
+ghost use Rattle.std.specs.Prelude.{◌≡◌, ◌+◌, ◌^◌, ◌<◌, ◌≤◌, ℕ, List, true, length, map, OnOk, IfOk, IfErr};
 ghost use Rattle.std.specs.String.{string_bytes};
 ghost use Rattle.rule_base.specs.Sound.{IsSound};
 ghost use Rattle.rule_base.specs.Thin.{is_thin};
@@ -9,7 +9,7 @@ ghost use Rattle.ops_command.specs.Call.{files_between};
 ghost use Rattle.rule_base.specs.Ending.{IsBudget};
 ghost use Rattle.ops_command.specs.Asking.{asked_of};
 ghost use Rattle.ops_command.specs.Account.{refusal, account_of, IsRefusal};
-ghost use Rattle.ops_command.specs.FileBytes.{most_bytes};
+ghost use Rattle.ops_command.specs.FileBytes.{most_bytes, HidesNoReadFault};
 ghost use Rattle.ops_command.specs.Answer.{IsSaidOfWords, IsSaidOf, IsSaidOfProgram};
 
 use crate::memory_file::read_opening;
@@ -23,7 +23,7 @@ use rule_base::Program;
 use std::alloc::Global;
 
 /// What is to be said: the report, and the text that is to be written.
-#[derive(Debug, Drop)]
+#[derive(Drop)]
 pub struct Plan {
     pub report: Report,
     pub text: Vec<u8>,
@@ -35,10 +35,12 @@ pub fn plan_words<F: Shelf>(
     words: &[String],
     shelf: &mut F,
 ) -> Result<Plan, OutOfMemory>
-    ensures { IfOk result (λ plan. IsSaidOfWords
+    ensures said { IfOk result (λ plan. IsSaidOfWords
         (map string_bytes words.now)
         (files_between F.told F.faults shelf.old shelf.new)
         (account_of plan)) }
+    ensures counted { IfOk result (λ plan.
+        HidesNoReadFault (F.faults shelf.old) (F.faults shelf.new) plan.report.status) }
 {
     match run_words(alloc, words, shelf) {
         Ok(plan) => Ok(plan),
@@ -67,6 +69,8 @@ fn run_words<F: Shelf>(alloc: Global, words: &[String], shelf: &mut F) -> Result
     ensures refused { IfErr result (IsRefusal (IsSaidOfWords
         (map string_bytes words.now)
         (files_between F.told F.faults shelf.old shelf.new))) }
+    ensures no_fault { OnOk result (F.faults shelf.new ≡ F.faults shelf.old) }
+    ensures counted { IfErr result (HidesNoReadFault (F.faults shelf.old) (F.faults shelf.new)) }
 {
     match requested(words) {
         Ok(request) => run_request(alloc, shelf, &request),
@@ -87,6 +91,8 @@ fn run_request<F: Shelf>(
     ensures refused { IfErr result (IsRefusal (IsSaidOf
         (files_between F.told F.faults shelf.old shelf.new)
         (asked_of request.now))) }
+    ensures no_fault { OnOk result (F.faults shelf.new ≡ F.faults shelf.old) }
+    ensures counted { IfErr result (HidesNoReadFault (F.faults shelf.old) (F.faults shelf.new)) }
 {
     let (program, mut symbols) = read_program(alloc, shelf, request.program)?;
     run_program(alloc, shelf, request, program, &mut symbols)
@@ -111,6 +117,8 @@ fn run_program<F: Shelf>(
     ensures refused { IfErr result (IsRefusal (IsSaidOfProgram
         (files_between F.told F.faults shelf.old shelf.new)
         (asked_of request.now) (record { program = program; names = symbols.old }))) }
+    ensures no_fault { OnOk result (F.faults shelf.new ≡ F.faults shelf.old) }
+    ensures counted { IfErr result (HidesNoReadFault (F.faults shelf.old) (F.faults shelf.new)) }
 {
     let opening = read_opening(alloc, shelf, request.memory, &program, symbols)?;
     let plan = plan_run(alloc, program, opening.as_slice(), request.budget, symbols)?;

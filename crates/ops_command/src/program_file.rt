@@ -1,10 +1,10 @@
 //! The program of a program file, or the reason why there is none.
 
-ghost use Rattle.std.specs.Prelude.{◌≡◌, ◌+◌, ◌^◌, ◌<◌, ◌≤◌, ℕ, List, length, IfOk, IfErr};
+ghost use Rattle.std.specs.Prelude.{◌≡◌, ◌+◌, ◌^◌, ◌<◌, ◌≤◌, ℕ, List, length, OnOk, IfOk, IfErr};
 ghost use Rattle.rule_base.specs.Sound.{IsSound};
 ghost use Rattle.ops_command.specs.Call.{files_between};
 ghost use Rattle.ops_command.specs.Account.{IsRefusal};
-ghost use Rattle.ops_command.specs.FileBytes.{most_bytes};
+ghost use Rattle.ops_command.specs.FileBytes.{most_bytes, HidesNoReadFault};
 ghost use Rattle.ops_command.specs.ProgramText.{first_names, Defines, IsFaultyProgram};
 ghost use Rattle.ops_command.specs.ProgramFile.{GivesProgram, IsRefusedProgram};
 
@@ -29,6 +29,8 @@ pub fn read_program<F: Shelf>(
     ensures refused { IfErr result (IsRefusal (IsRefusedProgram
         (files_between F.told F.faults shelf.old shelf.new)
         name.now)) }
+    ensures no_fault { OnOk result (F.faults shelf.new ≡ F.faults shelf.old) }
+    ensures counted { IfErr result (HidesNoReadFault (F.faults shelf.old) (F.faults shelf.new)) }
     ensures sound { IfOk result (λ r. IsSound r.0) }
     ensures few_makes { IfOk result (λ r. length r.0.makes < 2 ^ 32) }
     ensures few_names { IfOk result (λ r. length r.1 ≤ 1 + most_bytes) }

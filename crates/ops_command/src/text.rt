@@ -1,7 +1,7 @@
 //! The forms of a file's text, and the status where the text or its forms are faulty.
 
 ghost use Rattle.std.specs.Prelude.{◌≡◌, ◌+◌, ◌^◌, ◌<◌, ◌≤◌, length, IfOk, IfErr};
-ghost use Rattle.ops_reader.specs.Tokens.{tokens_of};
+ghost use Rattle.ops_tokens.specs.Tokens.{tokens_of};
 ghost use Rattle.ops_reader.specs.Grammar.{IsText};
 ghost use Rattle.ops_command.specs.Account.{IsRefusal};
 ghost use Rattle.ops_command.specs.FaultyText.{IsSyntaxError, check_status};

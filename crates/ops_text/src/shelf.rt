@@ -1,6 +1,6 @@
 //! Files that are read by pieces. It knows nothing of what stands in them.
 
-ghost use Rattle.std.specs.Prelude.{◌≡◌, ℕ, ◌<◌, ◌≤◌, List, Option, length, take, drop, vec_len, OnErr, IfOk, IsErr, IsErrOf};
+ghost use Rattle.std.specs.Prelude.{◌≡◌, ℕ, ◌⊎◌, ◌<◌, ◌≤◌, List, Option, length, take, drop, vec_len, OnOk, OnErr, IfOk, IsErr, IsErrOf};
 ghost use Rattle.std.specs.Option.{ForSome};
 ghost use Rattle.ops_text.specs.Faults.{Rose};
 
@@ -36,6 +36,7 @@ pub trait Shelf {
         ensures end { IfOk result (λ count. ForSome (told self.old name.now) (λ file.
             count ≡ 0 → 0 < length into.new → length file ≤ at)) }
         ensures failed { OnErr result (Rose (faults self.old name.now) (faults self.new name.now)) }
+        ensures passed { OnOk result (faults self.new ≡ faults self.old) }
 
         // Whatever the answer, the files and what is told of them stay.
         ensures same { told self.new ≡ told self.old }
@@ -82,6 +83,10 @@ pub fn read_all<F: Shelf>(
         Rose (F.faults shelf.old name.now) (F.faults shelf.new name.now) }
     ensures too_long { IsErrOf result ReadRefusal.TooLong →
         ForSome (F.told shelf.old name.now) (λ file. most < length file) }
+
+    // No fault is hidden: under every other answer the counts are as before.
+    ensures counted { IsErrOf result ReadRefusal.ReadFault
+        ⊎ (F.faults shelf.new ≡ F.faults shelf.old) }
 
     // Whatever the answer, the files and what is told of them stay.
     ensures same { F.told shelf.new ≡ F.told shelf.old }

@@ -32,6 +32,7 @@ pub trait Sink {
             Extends (told self.old) (told self.new) (take taken bytes.now)) }
         ensures err { OnErr result (told self.new ≡ told self.old) }
         ensures failed { OnErr result (Rose (faults self.old) (faults self.new)) }
+        ensures passed { OnOk result (faults self.new ≡ faults self.old) }
         ensures later { faults self.old ≤ faults self.new };
 }
 
@@ -45,6 +46,7 @@ pub fn write_all<K: Sink>(sink: &mut K, bytes: &[u8]) -> Result<(), WriteFault>
     ensures ok { OnOk result (Extends (K.told sink.old) (K.told sink.new) bytes.now) }
     ensures part { OnErr result (ExtendsInPart (K.told sink.old) (K.told sink.new) bytes.now) }
     ensures fault { OnErr result (Rose (K.faults sink.old) (K.faults sink.new)) }
+    ensures no_fault { OnOk result (K.faults sink.new ≡ K.faults sink.old) }
     ensures later { K.faults sink.old ≤ K.faults sink.new }
 {
     let mut done = 0;

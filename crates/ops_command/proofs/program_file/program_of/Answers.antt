@@ -1,7 +1,7 @@
 -- Forms that are read are those of the text, and the first rule that isn't thin has one of them.
 use Rattle.std.proofs.Common.{length, inr, refl, sym, ap, ◌∙◌, subst, arith}
 use Rattle.ops_text.specs.Names.{Names}
-use Rattle.ops_reader.specs.Tokens.{tokens_of}
+use Rattle.ops_tokens.specs.Tokens.{tokens_of}
 use Rattle.ops_reader.specs.Grammar.{IsText}
 use Rattle.ops_command.specs.ProgramText.{first_names}
 use Rattle.ops_command.proofs.UnbuiltLemmas.{unbuilt_form-None, unbuilt_form-within}

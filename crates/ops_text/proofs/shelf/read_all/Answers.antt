@@ -22,6 +22,7 @@ loop-shelf-preserved g c = record {
       rw (c.in_ok-extend_from_slice.ensures.items, place) (front_grows _ _ file _ _ front (read ∙ piece));
   room = omega arith;
   same = c.in-Ok.ensures.same ∙ c.loop-shelf.invariant.same;
+  counted = c.in-Ok.ensures.passed ∙ c.loop-shelf.invariant.counted;
   later = λ other. omega (arith, c.in-Ok.ensures.later other, c.loop-shelf.invariant.later other);
 }
 

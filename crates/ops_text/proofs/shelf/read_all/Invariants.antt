@@ -11,6 +11,7 @@ invariant-loop-shelf g l =
       front : ForSome (told l.initial.shelf l.name) (λ file. l.bytes.items ≡ take (vec_len l.bytes) file);
       room : 0 < vec_len l.piece;
       same : told l.shelf ≡ told l.initial.shelf;
+      counted : faults l.shelf ≡ faults l.initial.shelf;
       later : (other : List ℕ) → faults l.initial.shelf other ≤ faults l.shelf other;
     }
 

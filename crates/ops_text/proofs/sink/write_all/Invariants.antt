@@ -1,5 +1,5 @@
 -- What is done is written, and what is left ends the loop.
-use Rattle.std.proofs.Common.{◌-◌, ◌≤◌, length, take}
+use Rattle.std.proofs.Common.{◌≡◌, ◌-◌, ◌≤◌, length, take}
 use Rattle.ops_text.specs.Output.{Extends}
 use Rattle.ops_text.proofs.sink.write_all.Given as goal
 
@@ -11,6 +11,7 @@ invariant-loop-done g l =
       within : l.done ≤ length l.bytes;
       written : Extends (told l.initial.sink) (told l.sink) (take l.done l.bytes);
       later : faults l.initial.sink ≤ faults l.sink;
+      counted : faults l.sink ≡ faults l.initial.sink;
     }
 
 abbrev pub decreases-loop-done : goal.decreases-loop-done
