@@ -1,4 +1,4 @@
--- Lawful cores: a core at its opening is lawful, and a firing keeps it so.
+-- Lawful cores: a core at its opening is one and ready for a firing, and a firing keeps it so.
 use Rattle.std.proofs.Common.{◌≡◌, ℕ, ◌+◌, ◌^◌, ◌<◌, [], ◌∷◌, ◌++◌, length, true, Some, Ok, option_and_then, slice_get, refl, ◌∙◌, ap, subst, arith}
 use Rattle.std.proofs.lemmas.List.{length_push, map_push}
 use Rattle.rule_base.specs.declared.entry.Entry.{Entry}
@@ -22,55 +22,55 @@ use Rattle.rule_base.proofs.MachineLemmas.{Each-elements_at, IsKeepingStep-sound
 use Rattle.rule_base.proofs.StepLemmas.{IsStep-from_step, run-append}
 use Rattle.firing_core.specs.CoreState.{CoreState, choices_of}
 use Rattle.firing_core.specs.Lawful.{IsLawful}
+use Rattle.firing_core.specs.Kept.{IsKept}
 use Rattle.firing_core.specs.Matching.{MayMatch}
 use Rattle.firing_core.proofs.MatchingLemmas.{MayMatch-sound}
 
-pub IsLawful-opening : (program : Program) (elements : Memory) (budget : ℕ) → IsSound program → is_thin program ≡ true → IsOpening (sizes_of program.classes) elements → IsBudget budget → IsLawful (record { program = program; opening = elements; budget = budget; state = opening elements })
-IsLawful-opening program elements budget sound thin began given = record {
-  sound = sound;
+pub IsKept-opening : (program : Program) (elements : Memory) (budget : ℕ) → IsSound program → is_thin program ≡ true → IsOpening (sizes_of program.classes) elements → IsBudget budget → IsKept (record { program = program; opening = elements; budget = budget; state = opening elements })
+IsKept-opening program elements budget sound thin began few = record {
+  lawful = record { sound = sound; began = began; ran = refl; within = omega arith; few = few };
   thin = thin;
-  began = began;
-  ran = refl;
-  within = omega arith;
-  given = given;
-  keeps = record { elements = began.memory; below = let same : 1 + length elements ≡ length elements + 1 = omega arith in subst (λ n. AllBelow n elements) same (AllBelow-consecutive 1 elements began.consecutive) };
+  state = record { elements = began.memory; below = let same : 1 + length elements ≡ length elements + 1 = omega arith in subst (λ n. AllBelow n elements) same (AllBelow-consecutive 1 elements began.consecutive) };
   next_is_low = omega (arith, began.few);
 }
 
--- a lawful core whose budget is not used up is lawful after a step
-pub IsLawful-step : (k : CoreState) (c : Choice) (after : State) → IsLawful k → count k.state < k.budget → k.state.fired ≡ choices_of k.state.entries → step k.program k.state c ≡ Some after → IsLawful (record k { state = after })
-IsLawful-step k c after lawful within fired steps =
+-- a core whose budget is not used up is lawful and ready again after a step
+pub IsKept-step : (k : CoreState) (c : Choice) (after : State) → IsKept k → count k.state < k.budget → k.state.fired ≡ choices_of k.state.entries → step k.program k.state c ≡ Some after → IsKept (record k { state = after })
+IsKept-step k c after kept within fired steps =
+    let lawful = kept.lawful in
     let made = IsStep-from_step k.program k.state c after steps in
-    let keeps = IsKeepingStep-sound k.program k.state c after lawful.sound lawful.keeps steps in
+    let keeps = IsKeepingStep-sound k.program k.state c after lawful.sound kept.state steps in
     let entry = entry_of k.state.next c made.done in
     let entries_are : after.entries ≡ k.state.entries ++ entry ∷ [] = ap (λ (s : State). s.entries) made.commits in
     let choices_are : choices_of after.entries ≡ choices_of k.state.entries ++ c ∷ [] = ap choices_of entries_are ∙ map_push (λ (e : Entry). e.choice) k.state.entries entry in
     let counted : count after ≡ count k.state + 1 = ap length entries_are ∙ length_push k.state.entries entry in
     let last : run k.program k.state (c ∷ []) ≡ Some after = ap (option_and_then (λ (s : State). Some s)) steps in
     record {
-      sound = lawful.sound;
-      thin = lawful.thin;
-      began = lawful.began;
-      ran = ap (run k.program (opening k.opening)) choices_are ∙ run-append k.program (opening k.opening) (choices_of k.state.entries) (c ∷ []) ∙ ap (option_and_then (λ (s : State). run k.program s (c ∷ []))) lawful.ran ∙ last;
-      within = omega (arith, counted);
-      given = lawful.given;
-      keeps = keeps.state;
-      next_is_low = omega (arith, counted, keeps.near, lawful.next_is_low);
+      lawful = record {
+        sound = lawful.sound;
+        began = lawful.began;
+        ran = ap (run k.program (opening k.opening)) choices_are ∙ run-append k.program (opening k.opening) (choices_of k.state.entries) (c ∷ []) ∙ ap (option_and_then (λ (s : State). run k.program s (c ∷ []))) lawful.ran ∙ last;
+        within = omega (arith, counted);
+        few = lawful.few;
+      };
+      thin = kept.thin;
+      state = keeps.state;
+      next_is_low = omega (arith, counted, keeps.near, kept.next_is_low);
     }
 
 -- the tags of the elements that a firing makes fit in 64 bits
-pub born_fit : (k : CoreState) (rule : Rule) (c : Choice) (done : Effect) → IsLawful k → count k.state < k.budget → slice_get k.program.rules c.rule ≡ Some rule → effect rule (elements_at k.state.memory c.tags) ≡ Ok done → k.state.next + length (born k.state.next done.changes) < 2 ^ 64
-born_fit k rule c done lawful within at is =
+pub born_fit : (k : CoreState) (rule : Rule) (c : Choice) (done : Effect) → IsKept k → count k.state < k.budget → slice_get k.program.rules c.rule ≡ Some rule → effect rule (elements_at k.state.memory c.tags) ≡ Ok done → k.state.next + length (born k.state.next done.changes) < 2 ^ 64
+born_fit k rule c done kept within at is =
     let sizes = sizes_of k.program.classes in
-    let sound : IsSoundRule sizes rule = Each-slice_get (IsSoundRule sizes) k.program.rules c.rule rule lawful.sound.sound_rules at in
-    let sized = IsSizedEffect-sound sizes rule (elements_at k.state.memory c.tags) done sound (Each-elements_at (HasSize sizes) k.state.memory c.tags lawful.keeps.elements.sized) is in
-    omega (arith, length-born k.state.next done.changes, sized.few, sound.few_actions, lawful.next_is_low, lawful.given.few)
+    let sound : IsSoundRule sizes rule = Each-slice_get (IsSoundRule sizes) k.program.rules c.rule rule kept.lawful.sound.sound_rules at in
+    let sized = IsSizedEffect-sound sizes rule (elements_at k.state.memory c.tags) done sound (Each-elements_at (HasSize sizes) k.state.memory c.tags kept.state.elements.sized) is in
+    omega (arith, length-born k.state.next done.changes, sized.few, sound.few_actions, kept.next_is_low, kept.lawful.few.few)
 
 -- a rule of the program may be matched with elements of the memory
-pub rule_may_match : (k : CoreState) (rule : Rule) (c : Choice) → IsLawful k → slice_get k.program.rules c.rule ≡ Some rule → MayMatch rule.conds (elements_at k.state.memory c.tags) (no_bindings rule.vars)
-rule_may_match k rule c lawful at =
+pub rule_may_match : (k : CoreState) (rule : Rule) (c : Choice) → IsKept k → slice_get k.program.rules c.rule ≡ Some rule → MayMatch rule.conds (elements_at k.state.memory c.tags) (no_bindings rule.vars)
+rule_may_match k rule c kept at =
     let sizes = sizes_of k.program.classes in
-    MayMatch-sound sizes rule (elements_at k.state.memory c.tags) (Each-slice_get (IsSoundRule sizes) k.program.rules c.rule rule lawful.sound.sound_rules at) (Each-elements_at (HasSize sizes) k.state.memory c.tags lawful.keeps.elements.sized)
+    MayMatch-sound sizes rule (elements_at k.state.memory c.tags) (Each-slice_get (IsSoundRule sizes) k.program.rules c.rule rule kept.lawful.sound.sound_rules at) (Each-elements_at (HasSize sizes) k.state.memory c.tags kept.state.elements.sized)
 
 -- each rule of a thin program is thin
 pub thin_rule : (program : Program) (number : ℕ) (rule : Rule) → is_thin program ≡ true → slice_get program.rules number ≡ Some rule → is_thin_rule rule ≡ true

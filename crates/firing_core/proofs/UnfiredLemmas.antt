@@ -8,7 +8,7 @@ use Rattle.rule_base.specs.Step.{matches}
 use Rattle.rule_base.proofs.EachLemmas.{Each-find}
 use Rattle.rule_base.proofs.ConflictSetLemmas.{AllMatch-conflict_set}
 use Rattle.firing_core.specs.declared.machine.Core.TheInside.{Inside}
-use Rattle.firing_core.specs.CoreFields.{core_in, HoldsLawful}
+use Rattle.firing_core.specs.CoreFields.{core_in, HoldsKept}
 use Rattle.firing_core.specs.Firing.{IsNext}
 use Rattle.firing_core.specs.Unfired.{first_unfired}
 
@@ -31,13 +31,13 @@ fails_first p [] found is = absurd (let wrong : ⊥ = cc in wrong)
 fails_first p (x ∷ xs) found is = fails_head p (p x) (list_all p xs) x found (find (λ y. not (p y)) xs) refl is (fails_first p xs found)
 
 -- the answer of the filters says what the core's call promises
-pub first_unfired_is : (core : Inside) (found : Option Choice) → HoldsLawful core → found ≡ first_unfired core.entries.items (conflict_set core.program.value core.memory.items) → IsNext (core_in core) found
-first_unfired_is core None lawful is = all_from_none (has_fired (core_in core).state) (conflict_set core.program.value core.memory.items) (sym is)
-first_unfired_is core (Some c) lawful is =
+pub first_unfired_is : (core : Inside) (found : Option Choice) → HoldsKept core → found ≡ first_unfired core.entries.items (conflict_set core.program.value core.memory.items) → IsNext (core_in core) found
+first_unfired_is core None kept is = all_from_none (has_fired (core_in core).state) (conflict_set core.program.value core.memory.items) (sym is)
+first_unfired_is core (Some c) kept is =
     let choices = conflict_set core.program.value core.memory.items in
     let first = fails_first (has_fired (core_in core).state) choices c (sym is) in
     record {
-      matching = Each-find (λ (c : Choice). matches core.program.value core.memory.items c ≡ true) (λ (c : Choice). not (has_fired (core_in core).state c)) choices c (AllMatch-conflict_set core.program.value core.memory.items lawful.keeps.elements.rising) (sym is);
+      matching = Each-find (λ (c : Choice). matches core.program.value core.memory.items c ≡ true) (λ (c : Choice). not (has_fired (core_in core).state c)) choices c (AllMatch-conflict_set core.program.value core.memory.items kept.state.elements.rising) (sym is);
       unfired = first.0;
       not_quiet = first.1;
     }

@@ -2,7 +2,7 @@
 use Rattle.rule_base.specs.State.{State}
 use Rattle.firing_core.specs.declared.machine.Core.TheInside.{Inside}
 use Rattle.firing_core.specs.CoreState.{CoreState, choices_of}
-use Rattle.firing_core.specs.Lawful.{IsLawful}
+use Rattle.firing_core.specs.Kept.{IsKept}
 
 -- the state that the fields hold: each choice that fired stands in its entry
 abbrev pub state_in : Inside → State
@@ -13,6 +13,6 @@ state_in core =
 abbrev pub core_in : Inside → CoreState
 core_in core = record { program = core.program.value; opening = core.opening; budget = core.budget; state = state_in core }
 
--- that core is lawful
-abbrev pub HoldsLawful : Inside → Type 0
-HoldsLawful core = IsLawful (core_in core)
+-- that core is lawful, and ready for its next firing
+abbrev pub HoldsKept : Inside → Type 0
+HoldsKept core = IsKept (core_in core)

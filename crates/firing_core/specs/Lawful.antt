@@ -1,22 +1,17 @@
 -- Lawful cores: those whose state is the run of their journal from their opening.
-use Rattle.std.specs.Prelude.{◌≡◌, ◌+◌, ◌*◌, ◌^◌, ◌≤◌, true, Some}
+use Rattle.std.specs.Prelude.{◌≡◌, ◌≤◌, Some}
 use Rattle.rule_base.specs.Opening.{IsOpening}
 use Rattle.rule_base.specs.Sound.{IsSound, sizes_of}
-use Rattle.rule_base.specs.Thin.{is_thin}
-use Rattle.rule_base.specs.State.{IsState, count, opening}
+use Rattle.rule_base.specs.State.{count, opening}
 use Rattle.rule_base.specs.Run.{run}
 use Rattle.rule_base.specs.Ending.{IsBudget}
 use Rattle.firing_core.specs.CoreState.{CoreState, choices_of}
 
--- what every core keeps
+-- what every core is
 pub record IsLawful (k : CoreState) : Type 0 where
   pub sound : IsSound k.program
-  pub thin : is_thin k.program ≡ true
   pub began : IsOpening (sizes_of k.program.classes) k.opening
   -- the state is where the journal's choices lead from the opening
   pub ran : run k.program (opening k.opening) (choices_of k.state.entries) ≡ Some k.state
   pub within : count k.state ≤ k.budget
-  pub given : IsBudget k.budget
-  pub keeps : IsState (sizes_of k.program.classes) k.state
-  -- a firing has at most 64 actions, and each makes at most one element
-  pub next_is_low : k.state.next ≤ 2 ^ 62 + 64 * count k.state
+  pub few : IsBudget k.budget

@@ -9,4 +9,5 @@ pub mod Firing
 pub mod Turn
 pub mod Reached
 pub mod Plan
+pub mod Kept
 pub mod CoreFields

@@ -44,11 +44,11 @@ impl Model for Core {
 
     ghost coded = { Prim.hlevel (codes, operand.the_row.coded) };
 
-    ghost use Rattle.firing_core.specs.CoreFields.{core_in, HoldsLawful};
+    ghost use Rattle.firing_core.specs.CoreFields.{core_in, HoldsKept};
 
     ghost view = { core_in };
 
-    ghost invariant = { HoldsLawful };
+    ghost invariant = { HoldsKept };
 }
 
 impl Core {

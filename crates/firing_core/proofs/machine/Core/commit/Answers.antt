@@ -6,7 +6,7 @@ use Rattle.firing_core.specs.CoreState.{CoreState}
 use Rattle.firing_core.specs.CoreFields.{core_in, state_in}
 use Rattle.firing_core.specs.declared.machine.Core.TheInside.{Inside}
 use Rattle.firing_core.specs.Plan.{Plans}
-use Rattle.firing_core.proofs.LawfulLemmas.{IsLawful-step}
+use Rattle.firing_core.proofs.LawfulLemmas.{IsKept-step}
 use Rattle.firing_core.proofs.CommitLemmas.{step-planned}
 use Rattle.firing_core.proofs.machine.Core.commit.Goals as goal
 
@@ -23,4 +23,4 @@ invariant_of-self-2 c =
     let next : after.next ≡ k.state.next + length plan.born = search rules in
     let entries : after.entries.items ≡ k.state.entries ++ plan.entry ∷ [] = search rules in
     let halted : after.halted ≡ (k.state.halted || plan.entry.halts) = search rules in
-    IsLawful-step k c.args.choice (state_in after) c.self.invariant within refl (step-planned k c.args.choice plan after plans may refl memory next entries halted)
+    IsKept-step k c.args.choice (state_in after) c.self.invariant within refl (step-planned k c.args.choice plan after plans may refl memory next entries halted)
