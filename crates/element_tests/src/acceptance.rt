@@ -4,13 +4,14 @@ ghost use Rattle.std.specs.Prelude.{◌≡◌, ◌+◌, Some, None, length};
 ghost use Rattle.std.specs.Bool.{OnTrue, OnFalse};
 ghost use Rattle.std.specs.List.{AllByRecursion, list_any};
 ghost use Rattle.rule_base.specs.Value.{same_value};
+ghost use Rattle.rule_base.specs.Views.{element_in};
 ghost use Rattle.rule_base.specs.Acceptance.{accepts, after_test, after_tests, compared_with};
 ghost use Rattle.element_tests.specs.Asking.{MayAsk, HasPlace};
 ghost use Rattle.element_tests.specs.Taking.{HasOther, MayTake, MayTakeAll};
 ghost use Rattle.element_tests.specs.Unbinding.{unbound_by, unbound_by_test, Undoes};
 
 use crate::{Binds, holds};
-use rule_base::{Arg, Cond, Element, Pred, Steps, Test, Value};
+use rule_base::{Arg, Cond, ElementView, Pred, Steps, Test, Value};
 use std::sync::ledger::Ledger;
 
 /// Whether the element has the condition element's class and passes its tests from left to right. The
@@ -18,12 +19,14 @@ use std::sync::ledger::Ledger;
 pub fn accepts<L: Ledger>(
     cond: &Cond,
     binds: &mut Binds,
-    element: &Element,
+    element: ElementView<'_>,
     steps: &mut Steps<L>,
 ) -> bool
-    requires { MayAsk cond.now binds.old element.now }
-    ensures accepted { OnTrue result (accepts cond.now binds.old element.now ≡ Some binds.new) }
-    ensures refused { OnFalse result (accepts cond.now binds.old element.now ≡ None) }
+    requires { MayAsk cond.now binds.old (element_in element) }
+    ensures accepted { OnTrue result
+        (accepts cond.now binds.old (element_in element.entry) ≡ Some binds.new) }
+    ensures refused { OnFalse result
+        (accepts cond.now binds.old (element_in element.entry) ≡ None) }
     ensures kept { OnFalse result (binds.new ≡ binds.old) }
     ensures places { length binds.new ≡ length binds.old }
     ensures counted { steps.new ≡ steps.old + 1 }
@@ -32,7 +35,7 @@ pub fn accepts<L: Ledger>(
     if cond.class != element.class {
         return false;
     }
-    pass(cond.tests.as_slice(), binds, element.values.as_slice())
+    pass(cond.tests.as_slice(), binds, element.values)
 }
 
 /// Takes away the value of each variable that the condition element binds, and so undoes what

@@ -39,6 +39,19 @@ list_any-among p x [] among passes = absurd among
 list_any-among p x (y ∷ xs) (inl same) passes = any_here (p y) (list_any p xs) (ap p (sym same) ∙ passes)
 list_any-among p x (y ∷ xs) (inr later) passes = any_later (p y) (list_any p xs) (list_any-among p x xs later passes)
 
+-- a test holds of some element of two lists joined where it does of one of the two
+pub any_append_left : {X : Type 0} (p : X → Bool) (xs ys : List X) → list_any p xs ≡ true → list_any p (xs ++ ys) ≡ true
+any_append_left p [] ys any = absurd (let wrong : ⊥ = cc in wrong)
+any_append_left p (x ∷ xs) ys any = any_of_either (p x) (list_any p xs) (list_any p (xs ++ ys)) any (any_append_left p xs ys)
+  where
+    any_of_either : (b rest more : Bool) → (b || rest) ≡ true → (rest ≡ true → more ≡ true) → (b || more) ≡ true
+    any_of_either true rest more either later = refl
+    any_of_either false rest more either later = later either
+
+pub any_append_right : {X : Type 0} (p : X → Bool) (xs ys : List X) → list_any p ys ≡ true → list_any p (xs ++ ys) ≡ true
+any_append_right p [] ys any = any
+any_append_right p (x ∷ xs) ys any = any_later (p x) (list_any p (xs ++ ys)) (any_append_right p xs ys any)
+
 -- what a search finds is there, and passes the test
 pub record IsFound {X : Type 0} (p : X → Bool) (xs : List X) (x : X) : Type 0 where
   pub there : Among x xs

@@ -30,6 +30,15 @@ pub Each-filter : {X : Type 0} (P : X → Type 0) (p : X → Bool) (xs : List X)
 Each-filter P p [] of_xs = tt
 Each-filter P p (x ∷ xs) of_xs = filter_step P (p x) x (filter p xs) of_xs.0 (Each-filter P p xs of_xs.1)
 
+-- what a filter leaves passes its test
+filtered_step : {X : Type 0} (p : X → Bool) (b : Bool) (x : X) (rest : List X) → p x ≡ b → AllByRecursion (λ y. p y ≡ true) rest → AllByRecursion (λ y. p y ≡ true) (cond b (x ∷ rest) rest)
+filtered_step p true x rest passes of_rest = (passes, of_rest)
+filtered_step p false x rest passes of_rest = of_rest
+
+pub Each-filtered : {X : Type 0} (p : X → Bool) (xs : List X) → AllByRecursion (λ x. p x ≡ true) (filter p xs)
+Each-filtered p [] = tt
+Each-filtered p (x ∷ xs) = filtered_step p (p x) x (filter p xs) refl (Each-filtered p xs)
+
 find_step : {X : Type 0} (P : X → Type 0) (b : Bool) (x found : X) (rest : Option X) → P x → (rest ≡ Some found → P found) → cond b (Some x) rest ≡ Some found → P found
 find_step P true x found rest of_x of_rest is = let same : x ≡ found = cc in subst P same of_x
 find_step P false x found rest of_x of_rest is = of_rest is

@@ -1,10 +1,13 @@
 -- lists
 pub mod EachLemmas
 pub mod AmongLemmas
+pub mod StepByStepLemmas
+pub mod PlaceLemmas
 -- the machine: its steps, effects and memories, and what it keeps
 pub mod StepLemmas
 pub mod EffectLemmas
 pub mod MemoryLemmas
+pub mod ChoiceLemmas
 pub mod ConflictSetLemmas
 pub mod ListedLemmas
 pub mod OrderLemmas
@@ -12,5 +15,7 @@ pub mod ElementMatchLemmas
 pub mod ThinLemmas
 pub mod MachineLemmas
 pub mod RunLemmas
+pub mod TakenLemmas
+pub mod BaseLemmas
 -- expressions
 pub mod Written

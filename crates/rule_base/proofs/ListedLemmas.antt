@@ -3,7 +3,6 @@ use Rattle.std.proofs.Common.{◌≡◌, ℕ, ◌+◌, List, [], ◌∷◌, Bool
 use Rattle.std.specs.List.{enumerate_from, flat_map, list_any}
 use Rattle.std.specs.Option.{option_map_or}
 use Rattle.std.proofs.lemmas.Bool.Decides.{Decides-eqb}
-use Rattle.std.proofs.lemmas.Slice.Eq.{bytes_eq-Decides}
 use Rattle.rule_base.specs.declared.condition.Cond.{Cond}
 use Rattle.rule_base.specs.declared.element.Element.{Element}
 use Rattle.rule_base.specs.declared.instantiation.Choice.{Choice}
@@ -17,6 +16,7 @@ use Rattle.rule_base.specs.Match.{accepts_some, after_cond, go_on, match_from, m
 use Rattle.rule_base.specs.ConflictSet.{conflict_set, instantiations, tag_lists, tags_by, unless, with_bindings}
 use Rattle.rule_base.specs.State.{same_choice}
 use Rattle.rule_base.specs.Step.{matches}
+use Rattle.rule_base.proofs.ChoiceLemmas.{same_choice-itself}
 use Rattle.rule_base.proofs.AmongLemmas.{Among, Among-enumerate_from, Among-flat_map, Among-map, IsFound-find, list_any-among}
 
 -- these condition elements match with these tags, and so the tags are listed
@@ -55,10 +55,6 @@ is_listed : (number : ℕ) (conds : List Cond) (memory : Memory) → RestIsListe
 is_listed number [] memory [] bindings last ok = inl refl
 is_listed number [] memory (tag ∷ tags) bindings last ok = absurd (let wrong : ⊥ = cc in wrong)
 is_listed number (cond ∷ conds) memory tags bindings last ok = by_sign cond.negated number cond conds memory tags bindings last (is_listed (number + 1) conds memory) ok
-
--- a choice is the same as itself
-pub same_choice-itself : (c : Choice) → same_choice c c ≡ true
-same_choice-itself c = rw ((Decides-eqb c.rule c.rule).1 refl, (bytes_eq-Decides c.tags c.tags).1 refl) refl
 
 of_match : (program : Program) (memory : Memory) (c : Choice) (rule : Rule) (r : Result Bindings ℕ) → slice_get program.rules c.rule ≡ Some rule → match_of rule c.tags memory ≡ r → is_ok r ≡ true → list_any (same_choice c) (conflict_set program memory) ≡ true
 of_match program memory c rule (Err n) at is ok = absurd (let wrong : ⊥ = cc in wrong)

@@ -46,7 +46,7 @@ IsKeepingStep-sound program s c after sound state fires =
     let rule_sound : IsSoundRule sizes has.rule = Each-slice_get (IsSoundRule sizes) program.rules c.rule has.rule sound.sound_rules has.is in
     let sized_effect = IsSizedEffect-sound sizes has.rule (elements_at s.memory c.tags) made.done rule_sound (Each-elements_at (HasSize sizes) s.memory c.tags state.elements.sized) has.effect_is in
     let keeps = IsMemoryBelow-commit sizes s.next s.memory (removed_tags made.done.changes) made.done.changes state.elements state.below sized_effect.sized in
-    let kept : IsKeepingStep sizes s (committed s c made.done) = record {
+    let kept : IsKeepingStep sizes s (committed program s c made.done) = record {
       state = record { elements = keeps.memory'; below = keeps.below };
       near = omega (arith, length-born s.next made.done.changes, sized_effect.few, rule_sound.few_actions);
     } in

@@ -1,5 +1,5 @@
 -- Working memories: what their tags say, and what removing and adding elements keeps.
-use Rattle.std.proofs.Common.{◌≡◌, ℕ, ◌+◌, ◌<◌, ◌≤◌, List, [], ◌∷◌, ◌++◌, length, Bool, true, false, not, cond, ◌==◌, Some, eqb, refl, subst, arith, rules, tests}
+use Rattle.std.proofs.Common.{◌≡◌, ℕ, ◌+◌, ◌<◌, ◌≤◌, List, [], ◌∷◌, ◌++◌, length, Bool, true, false, not, cond, drop, slice_get, ◌==◌, Some, eqb, refl, ap, ◌∙◌, subst, arith, rules, tests}
 use Rattle.std.specs.List.{AllByRecursion, filter, list_any}
 use Rattle.rule_base.specs.declared.element.Element.{Element}
 use Rattle.rule_base.specs.declared.change.Change.{Change}
@@ -7,6 +7,7 @@ use Rattle.rule_base.specs.declared.change.Change.TheVariants.{Remove, Make}
 use Rattle.rule_base.specs.Memory.{HasSize, IsMemory, Memory, element_at, Rises, RisesFrom, tags_of}
 use Rattle.rule_base.specs.Opening.{AreConsecutive}
 use Rattle.rule_base.specs.Step.{born, without}
+use Rattle.rule_base.proofs.StepByStepLemmas.{drop_next}
 use Rattle.rule_base.proofs.EachLemmas.{Each-append, Each-filter, Each-weaker}
 use Rattle.rule_base.proofs.EffectLemmas.{MakesSized}
 
@@ -51,6 +52,21 @@ AllFound-rising (e ∷ memory) rises =
     let same : eqb e.tag e.tag ≡ true = search (rules, tests) in
     let here : element_at (e ∷ memory) e.tag ≡ Some e = rw same refl in
     (here, found_behind e memory memory rises (AllFound-rising memory (Rises-from_above e.tag (tags_of memory) rises)))
+
+-- the search for a tag, at an element that has it and at one that has not
+pub element_at-here : (memory : Memory) (at tag : ℕ) (e : Element) → slice_get memory at ≡ Some e → (e.tag == tag) ≡ true → element_at (drop at memory) tag ≡ Some e
+element_at-here memory at tag e is same = ap (λ es. element_at es tag) (drop_next memory at e is) ∙ found_first (e.tag == tag) same
+  where
+    found_first : (b : Bool) → b ≡ true → cond b (Some e) (element_at (drop (at + 1) memory) tag) ≡ Some e
+    found_first true is' = refl
+    found_first false is' = absurd (let wrong : ⊥ = cc in wrong)
+
+pub element_at-passed : (memory : Memory) (at tag : ℕ) (e : Element) → slice_get memory at ≡ Some e → (e.tag == tag) ≡ false → element_at (drop at memory) tag ≡ element_at (drop (at + 1) memory) tag
+element_at-passed memory at tag e is differs = ap (λ es. element_at es tag) (drop_next memory at e is) ∙ passed_first (e.tag == tag) differs
+  where
+    passed_first : (b : Bool) → b ≡ false → cond b (Some e) (element_at (drop (at + 1) memory) tag) ≡ element_at (drop (at + 1) memory) tag
+    passed_first false is' = refl
+    passed_first true is' = absurd (let wrong : ⊥ = cc in wrong)
 
 AllBelow-higher : (low high : ℕ) (memory : Memory) → low ≤ high → AllBelow low memory → AllBelow high memory
 AllBelow-higher low high memory le below = Each-weaker (λ (e : Element). e.tag < low) (λ (e : Element). e.tag < high) (λ e lt. omega (arith, lt, le)) memory below

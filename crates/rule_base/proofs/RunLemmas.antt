@@ -1,41 +1,22 @@
--- A run notes its choices in order, and fires none twice.
-use Rattle.std.proofs.Common.{◌≡◌, ◌≢◌, Bool, true, false, not, ◌&&◌, List, [], ◌∷◌, ◌++◌, Option, Some, None, get_or, map, option_and_then, refl, sym, ap, ◌∙◌, subst, true≢false, append_assoc, append-nil, arith}
-use Rattle.std.specs.List.{AllPairs, list_any}
+-- What a run leaves: its journal, its refraction, and the choices that have fired under each.
+use Rattle.std.proofs.Common.{◌≡◌, Bool, true, false, not, ◌&&◌, ◌||◌, List, [], ◌∷◌, ◌++◌, Option, Some, None, option_and_then, refl, sym, ap, ◌∙◌, subst, true≢false, append_assoc, append-nil}
+use Rattle.std.specs.List.{IsDistinct, list_any}
 use Rattle.std.proofs.lemmas.List.{map-append}
-use Rattle.std.proofs.lemmas.List.Folds.{list_any_at}
-use Rattle.std.proofs.lemmas.List.Quantifiers.{all_pairs_push}
 use Rattle.rule_base.specs.declared.instantiation.Choice.{Choice}
 use Rattle.rule_base.specs.declared.entry.Entry.{Entry}
 use Rattle.rule_base.specs.declared.program.Program.{Program}
+use Rattle.rule_base.specs.declared.base.Refraction.{Refraction}
+use Rattle.rule_base.specs.declared.base.Refraction.TheVariants.{Once, Renewed}
 use Rattle.rule_base.specs.Memory.{Memory}
-use Rattle.rule_base.specs.State.{State, opening, same_choice, has_fired}
-use Rattle.rule_base.specs.Step.{entry_of, matches, step}
+use Rattle.rule_base.specs.State.{State, choices_of, same_choice, has_fired}
+use Rattle.rule_base.specs.Step.{entry_of, is_listed, matches, memory_after, step, still_fired}
 use Rattle.rule_base.specs.Run.{run}
-use Rattle.rule_base.specs.RunLaws.{TellsRun}
-use Rattle.rule_base.proofs.StepLemmas.{IsStep-from_step}
-use Rattle.rule_base.proofs.ListedLemmas.{same_choice-itself}
-
-abbrev AreDistinct : List Choice → Type 0
-AreDistinct choices = AllPairs (λ choice later. choice ≢ later) choices
-
-abbrev told : List Entry → List Choice
-told entries = map (λ (entry : Entry). entry.choice) entries
-
--- one state has what another has, and these choices more
-record Fires (before : State) (choices : List Choice) (after : State) : Type 0 where
-  journal : told after.entries ≡ told before.entries ++ choices
-  fired : after.fired ≡ before.fired ++ choices
-  once : AreDistinct before.fired → AreDistinct after.fired
-
-no_choices : AreDistinct []
-no_choices = λ i j d below within. absurd (omega arith)
-
--- one more choice that has not fired leaves none twice
-AreDistinct-push : (choices : List Choice) (c : Choice) → AreDistinct choices → list_any (same_choice c) choices ≡ false → AreDistinct (choices ++ c ∷ [])
-AreDistinct-push choices c distinct new =
-    all_pairs_push (λ choice later. choice ≢ later) choices c distinct (λ k d within same.
-    let here : same_choice c (get_or choices k d) ≡ true = subst (λ (x : Choice). same_choice c x ≡ true) (sym same) (same_choice-itself c) in
-    true≢false (sym (list_any_at (same_choice c) choices k d within here) ∙ new))
+use Rattle.rule_base.specs.Base.{GoOnMatching}
+use Rattle.rule_base.specs.RunLaws.{FiresOnce, HasStopped}
+use Rattle.rule_base.proofs.AmongLemmas.{any_append_left, any_append_right}
+use Rattle.rule_base.proofs.ChoiceLemmas.{IsDistinct-push, any_filter, same_choice-itself}
+use Rattle.rule_base.proofs.EachLemmas.{Each-filtered}
+use Rattle.rule_base.proofs.StepLemmas.{IsStep, IsStep-from_step, none_is_no_some, run-by_steps}
 
 -- a choice that may be fired has not fired
 third_fails : (a b c : Bool) → (a && b && not c) ≡ true → c ≡ false
@@ -44,39 +25,154 @@ third_fails true true true h = absurd (cc)
 third_fails true false true h = absurd (cc)
 third_fails false b true h = absurd (cc)
 
--- one step fires its choice
-Fires-step : (program : Program) (s : State) (c : Choice) (after : State) → step program s c ≡ Some after → Fires s (c ∷ []) after
-Fires-step program s c after e =
-    let made = IsStep-from_step program s c after e in
-    let new = third_fails (not s.halted) (matches program s.memory c) (has_fired s c) made.may in
-    let fired : after.fired ≡ s.fired ++ c ∷ [] = ap (λ (t : State). t.fired) made.commits in
-    record {
-      journal = ap (λ (t : State). told t.entries) made.commits ∙ map-append (λ (entry : Entry). entry.choice) s.entries (entry_of s.next c made.done ∷ []);
-      fired = fired;
-      once = λ distinct. subst AreDistinct (sym fired) (AreDistinct-push s.fired c distinct new);
-    }
+pub unfired_at_step : (program : Program) (s : State) (c : Choice) (after : State) → step program s c ≡ Some after → has_fired s c ≡ false
+unfired_at_step program s c after steps = third_fails (not s.halted) (matches program s.memory c) (has_fired s c) (IsStep-from_step program s c after steps).may
 
--- firing goes on
-Fires-append : (s t u : State) (xs ys : List Choice) → Fires s xs t → Fires t ys u → Fires s (xs ++ ys) u
-Fires-append s t u xs ys first second = record {
-  journal = second.journal ∙ ap (λ front. front ++ ys) first.journal ∙ append_assoc (told s.entries) xs ys;
-  fired = second.fired ∙ ap (λ front. front ++ ys) first.fired ∙ append_assoc s.fired xs ys;
-  once = λ distinct. second.once (first.once distinct);
+-- and it matches
+second_holds : (a b c : Bool) → (a && b && not c) ≡ true → b ≡ true
+second_holds a true c h = refl
+second_holds true false c h = absurd (cc)
+second_holds false false c h = absurd (cc)
+
+pub matches_at_step : (program : Program) (s : State) (c : Choice) (after : State) → step program s c ≡ Some after → matches program s.memory c ≡ true
+matches_at_step program s c after steps = second_holds (not s.halted) (matches program s.memory c) (has_fired s c) (IsStep-from_step program s c after steps).may
+
+-- what one step makes of the choices that have fired
+fired_after : (program : Program) (s : State) (c : Choice) (after : State) → (made : IsStep program s c after) → after.fired ≡ still_fired s.refraction program (memory_after s made.done) (s.fired ++ c ∷ [])
+fired_after program s c after made = ap (λ (t : State). t.fired) made.commits
+
+-- one more after a list of others
+one_more : (front before : List Choice) (c : Choice) (choices : List Choice) → front ≡ before ++ c ∷ [] → front ++ choices ≡ before ++ c ∷ choices
+one_more front before c choices is = ap (λ f. f ++ choices) is ∙ append_assoc before (c ∷ []) choices
+
+-- the journal tells the choices
+told_first : (program : Program) (s t after : State) (c : Choice) (choices : List Choice) → step program s c ≡ Some t → choices_of after.entries ≡ choices_of t.entries ++ choices → choices_of after.entries ≡ choices_of s.entries ++ c ∷ choices
+told_first program s t after c choices steps rest =
+    let made = IsStep-from_step program s c t steps in
+    let here : choices_of t.entries ≡ choices_of s.entries ++ c ∷ [] = ap (λ (u : State). choices_of u.entries) made.commits ∙ map-append (λ (entry : Entry). entry.choice) s.entries (entry_of s.next c made.done ∷ []) in
+    rest ∙ one_more (choices_of t.entries) (choices_of s.entries) c choices here
+
+pub told-run : (program : Program) (s : State) (choices : List Choice) (after : State) → run program s choices ≡ Some after → choices_of after.entries ≡ choices_of s.entries ++ choices
+told-run program = run-by_steps program (λ s choices after. choices_of after.entries ≡ choices_of s.entries ++ choices) (λ s. sym (append-nil (choices_of s.entries))) (told_first program)
+
+-- the refraction stays
+pub refraction-step : (program : Program) (s : State) (c : Choice) (after : State) → step program s c ≡ Some after → after.refraction ≡ s.refraction
+refraction-step program s c after steps = ap (λ (t : State). t.refraction) (IsStep-from_step program s c after steps).commits
+
+pub refraction-run : (program : Program) (s : State) (choices : List Choice) (after : State) → run program s choices ≡ Some after → after.refraction ≡ s.refraction
+refraction-run program = run-by_steps program (λ s choices after. after.refraction ≡ s.refraction) (λ s. refl) (λ s t after c choices steps rest. rest ∙ refraction-step program s c t steps)
+
+-- under `Once` what fires stays fired
+FiresOnce-nothing : (s : State) → FiresOnce s [] s
+FiresOnce-nothing s = record {
+  fired = sym (append-nil s.fired);
+  stays = λ c fired. fired;
+  once = λ distinct. distinct;
 }
 
-Fires-nothing : (s : State) → Fires s [] s
-Fires-nothing s = record { journal = sym (append-nil (told s.entries)); fired = sym (append-nil s.fired); once = λ distinct. distinct }
+fired_once : (program : Program) (s : State) (c : Choice) (after : State) → s.refraction ≡ Once → step program s c ≡ Some after → after.fired ≡ s.fired ++ c ∷ []
+fired_once program s c after once steps =
+    let made = IsStep-from_step program s c after steps in
+    fired_after program s c after made ∙ ap (λ r. still_fired r program (memory_after s made.done) (s.fired ++ c ∷ [])) once
 
-after_step : (program : Program) (s : State) (c : Choice) (choices : List Choice) (after : State) (o : Option State) → ((t : State) → o ≡ Some t → Fires s (c ∷ []) t)
-    → ((t : State) → run program t choices ≡ Some after → Fires t choices after) → option_and_then (λ t. run program t choices) o ≡ Some after → Fires s (c ∷ choices) after
-after_step program s c choices after None first rest ran = absurd (let wrong : ⊥ = cc in wrong)
-after_step program s c choices after (Some t) first rest ran = Fires-append s t after (c ∷ []) choices (first t refl) (rest t ran)
+FiresOnce-first : (program : Program) (s t after : State) (c : Choice) (choices : List Choice) → step program s c ≡ Some t → (t.refraction ≡ Once → FiresOnce t choices after) → s.refraction ≡ Once → FiresOnce s (c ∷ choices) after
+FiresOnce-first program s t after c choices steps later once =
+    let rest = later (refraction-step program s c t steps ∙ once) in
+    let here = fired_once program s c t once steps in
+    let joined = one_more t.fired s.fired c choices here in
+    record {
+      fired = rest.fired ∙ joined;
+      stays = λ d fired. rest.stays d (subst (λ (cs : List Choice). list_any (same_choice d) cs ≡ true) (sym here) (any_append_left (same_choice d) s.fired (c ∷ []) fired));
+      once = λ distinct. rest.once (subst (IsDistinct same_choice) (sym here) (IsDistinct-push s.fired c distinct (unfired_at_step program s c t steps)));
+    }
 
-Fires-run : (program : Program) (s : State) (choices : List Choice) (after : State) → run program s choices ≡ Some after → Fires s choices after
-Fires-run program s [] after ran = let same : s ≡ after = cc in subst (Fires s []) same (Fires-nothing s)
-Fires-run program s (c ∷ choices) after ran = after_step program s c choices after (step program s c) (Fires-step program s c) (λ t goes. Fires-run program t choices after goes) ran
+pub FiresOnce-run : (program : Program) (s : State) (choices : List Choice) (after : State) → run program s choices ≡ Some after → s.refraction ≡ Once → FiresOnce s choices after
+FiresOnce-run program = run-by_steps program (λ s choices after. s.refraction ≡ Once → FiresOnce s choices after) (λ s once. FiresOnce-nothing s) (FiresOnce-first program)
 
-pub TellsRun-run : (program : Program) (elements : Memory) (choices : List Choice) (after : State) → run program (opening elements) choices ≡ Some after → TellsRun choices after
-TellsRun-run program elements choices after ran =
-    let fires = Fires-run program (opening elements) choices after ran in
-    record { journal = fires.journal; fired = fires.fired; once = subst AreDistinct fires.fired (fires.once no_choices) }
+-- what stays fired under `Renewed` is in the conflict set
+pub GoOnMatching-still : (r : Refraction) (program : Program) (memory : Memory) (fired : List Choice) → GoOnMatching r program memory (still_fired r program memory fired)
+GoOnMatching-still Once program memory fired = tt
+GoOnMatching-still Renewed program memory fired = Each-filtered (is_listed program memory) fired
+
+pub GoOnMatching-step : (program : Program) (s : State) (c : Choice) (after : State) → step program s c ≡ Some after → GoOnMatching after.refraction program after.memory after.fired
+GoOnMatching-step program s c after steps =
+    let made = IsStep-from_step program s c after steps in
+    subst (λ (t : State). GoOnMatching t.refraction program t.memory t.fired) (sym made.commits) (GoOnMatching-still s.refraction program (memory_after s made.done) (s.fired ++ c ∷ []))
+
+pub GoOnMatching-run : (program : Program) (s : State) (choices : List Choice) (after : State) → run program s choices ≡ Some after → GoOnMatching s.refraction program s.memory s.fired → GoOnMatching after.refraction program after.memory after.fired
+GoOnMatching-run program = run-by_steps program (λ s choices after. GoOnMatching s.refraction program s.memory s.fired → GoOnMatching after.refraction program after.memory after.fired) (λ s matching. matching) (λ s t after c choices steps rest matching. rest (GoOnMatching-step program s c t steps))
+
+-- under `Renewed` a choice that has fired, or fires now, is fired after a step, or isn't in the conflict set any more
+stays_fired : (program : Program) (s : State) (d c : Choice) (after : State) → s.refraction ≡ Renewed → step program s d ≡ Some after → list_any (same_choice c) (s.fired ++ d ∷ []) ≡ true → is_listed program after.memory c ≡ true → has_fired after c ≡ true
+stays_fired program s d c after renewed steps fired listed =
+    let made = IsStep-from_step program s d after steps in
+    let memory = memory_after s made.done in
+    let kept : after.fired ≡ still_fired Renewed program memory (s.fired ++ d ∷ []) = fired_after program s d after made ∙ ap (λ r. still_fired r program memory (s.fired ++ d ∷ [])) renewed in
+    let here : is_listed program memory c ≡ true = subst (λ m. is_listed program m c ≡ true) (ap (λ (t : State). t.memory) made.commits) listed in
+    subst (λ (cs : List Choice). list_any (same_choice c) cs ≡ true) (sym kept) (any_filter c (is_listed program memory) (s.fired ++ d ∷ []) fired here)
+
+-- a choice that has fired, and fires later again
+fires_later : (program : Program) (s : State) (c : Choice) (later : List Choice) (o : Option State) → step program s c ≡ o → has_fired s c ≡ true → option_and_then (λ t. run program t later) o ≡ None
+fires_later program s c later None steps fired = refl
+fires_later program s c later (Some t) steps fired = absurd (true≢false (sym fired ∙ unfired_at_step program s c t steps))
+
+-- so it stops after one of the firings between
+record StopsAfter (program : Program) (s : State) (c : Choice) (between : List Choice) : Type 0 where
+  front : List Choice
+  back : List Choice
+  parts : between ≡ front ++ back
+  there : State
+  ran : run program s front ≡ Some there
+  stopped : is_listed program there.memory c ≡ false
+
+-- it does where it does from the next state on
+abbrev StopsFrom : Program → Choice → List Choice → List Choice → State → Type 0
+StopsFrom program c between later after = (t : State) → t.refraction ≡ Renewed → has_fired t c ≡ true → run program t (between ++ c ∷ later) ≡ Some after → StopsAfter program t c between
+
+stops_here : (program : Program) (s t : State) (d c : Choice) (between later : List Choice) (after : State) (b : Bool) → StopsFrom program c between later after → is_listed program t.memory c ≡ b → step program s d ≡ Some t → s.refraction ≡ Renewed → list_any (same_choice c) (s.fired ++ d ∷ []) ≡ true → run program t (between ++ c ∷ later) ≡ Some after → StopsAfter program s c (d ∷ between)
+stops_here program s t d c between later after false from listed steps renewed fired ran = record { front = d ∷ []; back = between; parts = refl; there = t; ran = ap (option_and_then (λ (u : State). Some u)) steps; stopped = listed }
+stops_here program s t d c between later after true from listed steps renewed fired ran =
+    let rest = from t (refraction-step program s d t steps ∙ renewed) (stays_fired program s d c t renewed steps fired listed) ran in
+    record {
+      front = d ∷ rest.front;
+      back = rest.back;
+      parts = ap (λ cs. d ∷ cs) rest.parts;
+      there = rest.there;
+      ran = ap (option_and_then (λ (u : State). run program u rest.front)) steps ∙ rest.ran;
+      stopped = rest.stopped;
+    }
+
+stops_next : (program : Program) (s : State) (d c : Choice) (between later : List Choice) (after : State) (o : Option State) → StopsFrom program c between later after → step program s d ≡ o → s.refraction ≡ Renewed → has_fired s c ≡ true → option_and_then (λ t. run program t (between ++ c ∷ later)) o ≡ Some after → StopsAfter program s c (d ∷ between)
+stops_next program s d c between later after None from steps renewed fired ran = absurd (none_is_no_some ran)
+stops_next program s d c between later after (Some t) from steps renewed fired ran =
+    stops_here program s t d c between later after (is_listed program t.memory c) from refl steps renewed (any_append_left (same_choice c) s.fired (d ∷ []) fired) ran
+
+stops_among : (program : Program) (c : Choice) (between later : List Choice) (after : State) → StopsFrom program c between later after
+stops_among program c [] later after s renewed fired ran = absurd (none_is_no_some (sym (fires_later program s c later (step program s c) refl fired) ∙ ran))
+stops_among program c (d ∷ between) later after s renewed fired ran = stops_next program s d c between later after (step program s d) (stops_among program c between later after) refl renewed fired ran
+
+-- the first firing, after which it may have stopped already
+stops_first : (program : Program) (s t : State) (c : Choice) (between later : List Choice) (after : State) (b : Bool) → is_listed program t.memory c ≡ b → step program s c ≡ Some t → s.refraction ≡ Renewed → run program t (between ++ c ∷ later) ≡ Some after → HasStopped program s c between
+stops_first program s t c between later after false listed steps renewed ran = record { front = []; back = between; parts = refl; there = t; ran = ap (option_and_then (λ (u : State). Some u)) steps; stopped = listed }
+stops_first program s t c between later after true listed steps renewed ran =
+    let now : list_any (same_choice c) (s.fired ++ c ∷ []) ≡ true = any_append_right (same_choice c) s.fired (c ∷ []) (same_first (same_choice c c) (same_choice-itself c)) in
+    let rest = stops_among program c between later after t (refraction-step program s c t steps ∙ renewed) (stays_fired program s c c t renewed steps now listed) ran in
+    record {
+      front = rest.front;
+      back = rest.back;
+      parts = rest.parts;
+      there = rest.there;
+      ran = ap (option_and_then (λ (u : State). run program u rest.front)) steps ∙ rest.ran;
+      stopped = rest.stopped;
+    }
+  where
+    same_first : (b : Bool) → b ≡ true → (b || false) ≡ true
+    same_first true is = refl
+    same_first false is = absurd (let wrong : ⊥ = cc in wrong)
+
+has_stopped : (program : Program) (s : State) (c : Choice) (between later : List Choice) (after : State) (o : Option State) → step program s c ≡ o → s.refraction ≡ Renewed → option_and_then (λ t. run program t (between ++ c ∷ later)) o ≡ Some after → HasStopped program s c between
+has_stopped program s c between later after None steps renewed ran = absurd (none_is_no_some ran)
+has_stopped program s c between later after (Some t) steps renewed ran = stops_first program s t c between later after (is_listed program t.memory c) refl steps renewed ran
+
+pub HasStopped-run : (program : Program) (s : State) (c : Choice) (between later : List Choice) (after : State) → s.refraction ≡ Renewed → run program s (c ∷ (between ++ c ∷ later)) ≡ Some after → HasStopped program s c between
+HasStopped-run program s c between later after renewed ran = has_stopped program s c between later after (step program s c) refl renewed ran

@@ -1,14 +1,14 @@
 -- How a run may end.
 use Rattle.std.specs.Prelude.{◌≡◌, ℕ, ◌<◌, ◌≤◌, Bool, true, false, Some, Err}
-use Rattle.std.specs.List.{list_any, list_all}
+use Rattle.std.specs.List.{list_all}
 use Rattle.rule_base.specs.declared.instantiation.Choice.{Choice}
 use Rattle.rule_base.specs.declared.program.Program.{Program}
 use Rattle.rule_base.specs.declared.entry.FaultCause.{FaultCause}
 use Rattle.rule_base.specs.declared.entry.Ending.{Ending}
 use Rattle.rule_base.specs.declared.entry.Ending.TheVariants.{Quiet, Halted, Spent, Fault}
 use Rattle.rule_base.specs.ConflictSet.{conflict_set}
-use Rattle.rule_base.specs.State.{State, count, same_choice, has_fired, IsUnfired}
-use Rattle.rule_base.specs.Step.{effect_of}
+use Rattle.rule_base.specs.State.{State, count, has_fired, IsUnfired}
+use Rattle.rule_base.specs.Step.{effect_of, is_listed}
 
 -- whether every choice of the conflict set has fired
 abbrev pub is_quiet : Program → State → Bool
@@ -36,7 +36,7 @@ pub record IsSpent (program : Program) (budget : ℕ) (s : State) (n : ℕ) : Ty
 pub record IsFault (program : Program) (budget : ℕ) (s : State) (c : Choice) (action : ℕ) (cause : FaultCause) : Type 0 where
   pub going : s.halted ≡ false
   pub within : count s < budget
-  pub matching : list_any (same_choice c) (conflict_set program s.memory) ≡ true
+  pub matching : is_listed program s.memory c ≡ true
   pub unfired : IsUnfired s c
   pub fails : effect_of program s.memory c ≡ Some (Err (record { action = action; cause = cause }))
 

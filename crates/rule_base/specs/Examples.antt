@@ -5,5 +5,6 @@ pub mod Predicates
 pub mod Matches
 pub mod Effects
 pub mod Firings
+pub mod Bases
 pub mod Layouts
 pub mod Soundness

@@ -5,6 +5,8 @@ pub mod Cases
 pub mod Predicate
 pub mod Memory
 pub mod Opening
+pub mod Views
+pub mod Places
 pub mod Bindings
 -- which instantiations match
 pub mod Acceptance
@@ -16,7 +18,7 @@ pub mod Expression
 pub mod Compute
 pub mod Term
 pub mod Effect
--- the recognise-act machine and its endings
+-- the recognise-act machine: where it begins, its steps and its endings
 pub mod State
 pub mod Step
 pub mod Run
@@ -28,8 +30,11 @@ pub mod SoundConditions
 pub mod SoundActions
 pub mod Sound
 pub mod Thin
--- laws of the match and of runs
+-- what a run may begin from
+pub mod Base
+-- laws of the match, of runs and of bases
 pub mod MatchLaws
 pub mod RunLaws
+pub mod BaseLaws
 -- worked examples of all of these
 pub mod Examples

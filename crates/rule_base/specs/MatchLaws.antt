@@ -1,6 +1,6 @@
 -- Laws of the match: the conflict set has the instantiations that match and no others, in rising order.
 use Rattle.std.specs.Prelude.{◌≡◌, ℕ, List, [], ◌∷◌, Bool, true, false, ◌&&◌, ◌||◌, ◌==◌, nat_lt, Some, Ok}
-use Rattle.std.specs.List.{AllByRecursion, list_any}
+use Rattle.std.specs.List.{AllByRecursion}
 use Rattle.rule_base.specs.declared.instantiation.Choice.{Choice}
 use Rattle.rule_base.specs.declared.program.Rule.{Rule}
 use Rattle.rule_base.specs.declared.program.Program.{Program}
@@ -9,8 +9,7 @@ use Rattle.rule_base.specs.Bindings.{Bindings}
 use Rattle.rule_base.specs.Match.{match_of}
 use Rattle.rule_base.specs.ConflictSet.{conflict_set}
 use Rattle.rule_base.specs.ElementMatch.{bindings_with}
-use Rattle.rule_base.specs.State.{same_choice}
-use Rattle.rule_base.specs.Step.{matches}
+use Rattle.rule_base.specs.Step.{is_listed, matches}
 
 -- each choice of the conflict set matches, in a memory whose tags rise
 abbrev pub EachMatches : Type 0
@@ -19,8 +18,7 @@ EachMatches = (program : Program) (memory : Memory) → Rises (tags_of memory)
 
 -- each choice that matches is in the conflict set
 abbrev pub EachMatchIsListed : Type 0
-EachMatchIsListed = (program : Program) (memory : Memory) (c : Choice) → matches program memory c ≡ true
-    → list_any (same_choice c) (conflict_set program memory) ≡ true
+EachMatchIsListed = (program : Program) (memory : Memory) (c : Choice) → matches program memory c ≡ true → is_listed program memory c ≡ true
 
 -- the bindings of a match are those with which its rule takes the elements that it matched
 abbrev pub BindingsAreTheMatch : Type 0

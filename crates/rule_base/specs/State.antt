@@ -1,20 +1,23 @@
--- The state of the recognise-act machine.
-use Rattle.std.specs.Prelude.{◌≡◌, ℕ, ◌+◌, ◌<◌, List, [], Bool, false, length, ◌&&◌, ◌==◌}
+-- The state of the recognise-act machine, and where it begins.
+use Rattle.std.specs.Prelude.{◌≡◌, ℕ, ◌+◌, ◌<◌, List, [], Bool, false, length, map, ◌&&◌, ◌==◌}
 use Rattle.std.specs.List.{AllByRecursion, list_any}
 use Rattle.std.specs.Str.{bytes_eq}
 use Rattle.rule_base.specs.declared.element.Element.{Element}
 use Rattle.rule_base.specs.declared.instantiation.Choice.{Choice}
 use Rattle.rule_base.specs.declared.entry.Entry.{Entry}
+use Rattle.rule_base.specs.declared.base.Refraction.{Refraction}
+use Rattle.rule_base.specs.declared.base.Base.{Base}
 use Rattle.rule_base.specs.Memory.{Memory, IsMemory}
 
 -- the working memory, the next time tag, the choices that have fired and the journal's entries, both in order,
--- and whether a firing has halted
+-- whether a firing has halted, and the refraction
 pub record State : Type 0 where
   pub memory : Memory
   pub next : ℕ
   pub fired : List Choice
   pub entries : List Entry
   pub halted : Bool
+  pub refraction : Refraction
 
 -- a state over classes of these sizes: its memory is one, and each tag was given before the next
 pub record IsState (sizes : List ℕ) (s : State) : Type 0 where
@@ -25,9 +28,27 @@ pub record IsState (sizes : List ℕ) (s : State) : Type 0 where
 abbrev pub count : State → ℕ
 count s = length s.entries
 
--- the state in which a run begins: the opening memory, and nothing else
-abbrev pub opening : Memory → State
-opening memory = record { memory = memory; next = length memory + 1; fired = []; entries = []; halted = false }
+-- the choices that a journal's entries fired, in order
+abbrev pub choices_of : List Entry → List Choice
+choices_of entries = map (λ (entry : Entry). entry.choice) entries
+
+-- the state in which a run from a base begins: what the base has, no entry, and not halted
+abbrev pub start : Base → State
+start base =
+    record { memory = base.elements; next = base.next; fired = base.fired; entries = []; halted = false; refraction = base.refraction }
+
+-- the base of an opening: its elements have the tags from 1 on, the next tag is the one after them, and nothing has
+-- fired
+abbrev pub opening_base : Memory → Refraction → Base
+opening_base elements refraction = record { elements = elements; next = length elements + 1; fired = []; refraction = refraction }
+
+-- the state in which a run from an opening begins
+abbrev pub opening : Memory → Refraction → State
+opening elements refraction = start (opening_base elements refraction)
+
+-- the base that a state gives: a run may go on from here, with a journal of its own
+abbrev pub base_of : State → Base
+base_of s = record { elements = s.memory; next = s.next; fired = s.fired; refraction = s.refraction }
 
 -- whether two lists of tags are the same, number by number
 abbrev pub same_tags : List ℕ → List ℕ → Bool
@@ -37,7 +58,7 @@ same_tags = bytes_eq
 abbrev pub same_choice : Choice → Choice → Bool
 same_choice c d = (c.rule == d.rule) && same_tags c.tags d.tags
 
--- refraction: whether the choice, an instantiation told by its rule and its tags, has fired
+-- refraction: whether the choice, an instantiation told by its rule and its tags, is among those that have fired
 abbrev pub has_fired : State → Choice → Bool
 has_fired s c = list_any (same_choice c) s.fired
 

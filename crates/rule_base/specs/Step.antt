@@ -11,11 +11,14 @@ use Rattle.rule_base.specs.declared.change.Tagged.TheVariants.{Gone, Born}
 use Rattle.rule_base.specs.declared.entry.Entry.{Entry}
 use Rattle.rule_base.specs.declared.program.Rule.{Rule}
 use Rattle.rule_base.specs.declared.program.Program.{Program}
+use Rattle.rule_base.specs.declared.base.Refraction.{Refraction}
+use Rattle.rule_base.specs.declared.base.Refraction.TheVariants.{Once, Renewed}
 use Rattle.rule_base.specs.Chains.{only_if}
 use Rattle.rule_base.specs.Memory.{Memory, elements_at}
 use Rattle.rule_base.specs.Match.{match_of}
+use Rattle.rule_base.specs.ConflictSet.{conflict_set}
 use Rattle.rule_base.specs.Effect.{Effect, Failure, effect, removed_tags}
-use Rattle.rule_base.specs.State.{State, has_fired}
+use Rattle.rule_base.specs.State.{State, has_fired, same_choice}
 
 -- the elements that the makes among changes make, with consecutive tags from this one on, in order
 abbrev pub born : ℕ → List Change → List Element
@@ -36,14 +39,29 @@ entry_of tag c done = record {
   halts = done.halts;
 }
 
--- the state after a commit: all removals come first, and then the makes get the next tags
-abbrev pub committed : State → Choice → Effect → State
-committed s c done = record {
-  memory = without s.memory (removed_tags done.changes) ++ born s.next done.changes;
+-- the memory after a commit: all removals come first, and then the makes get the next tags
+abbrev pub memory_after : State → Effect → Memory
+memory_after s done = without s.memory (removed_tags done.changes) ++ born s.next done.changes
+
+-- whether the choice is in the conflict set
+abbrev pub is_listed : Program → Memory → Choice → Bool
+is_listed program memory c = list_any (same_choice c) (conflict_set program memory)
+
+-- of the choices that have fired, those that stay fired in this memory: under `Renewed` only what is in the conflict
+-- set does, so that a choice which stops matching may fire again
+abbrev pub still_fired : Refraction → Program → Memory → List Choice → List Choice
+still_fired Once program memory fired = fired
+still_fired Renewed program memory fired = filter (is_listed program memory) fired
+
+-- the state after a commit
+abbrev pub committed : Program → State → Choice → Effect → State
+committed program s c done = record {
+  memory = memory_after s done;
   next = s.next + length (born s.next done.changes);
-  fired = s.fired ++ c ∷ [];
+  fired = still_fired s.refraction program (memory_after s done) (s.fired ++ c ∷ []);
   entries = s.entries ++ entry_of s.next c done ∷ [];
   halted = s.halted || done.halts;
+  refraction = s.refraction;
 }
 
 -- whether the choice matches: there is its rule, and the rule's match succeeds
@@ -61,4 +79,4 @@ may_fire program s c = not s.halted && matches program s.memory c && not (has_fi
 -- the state after firing the choice, where the machine may fire it and its effect doesn't fail
 abbrev pub step : Program → State → Choice → Option State
 step program s c =
-    option_and_then (λ done. only_if (may_fire program s c) (committed s c done)) (option_and_then result_ok (effect_of program s.memory c))
+    option_and_then (λ done. only_if (may_fire program s c) (committed program s c done)) (option_and_then result_ok (effect_of program s.memory c))

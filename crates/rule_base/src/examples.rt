@@ -5,6 +5,7 @@ ghost use Rattle.rule_base.specs.Examples.Predicates.{AreColumns, AreRows};
 ghost use Rattle.rule_base.specs.Examples.Matches.{AreAcceptances, AreMatches, AreConflictSets};
 ghost use Rattle.rule_base.specs.Examples.Effects.{AreComputed, AreEffects, AreTrees, EachTreeIsWritten};
 ghost use Rattle.rule_base.specs.Examples.Firings.{AreRuns, AreTags, AreEntries, AreEndings};
+ghost use Rattle.rule_base.specs.Examples.Bases.{AreRenewals, AreFromBases, AreLawful, AreUnlawful};
 ghost use Rattle.rule_base.specs.Examples.Layouts.{AreLayouts};
 ghost use Rattle.rule_base.specs.Examples.Soundness.{AreSound, AreUnsound};
 
@@ -47,6 +48,18 @@ pub fn runs()
 /// How runs end.
 pub fn endings()
     ensures { AreEndings }
+{}
+
+/// One program under both refractions.
+pub fn refractions()
+    ensures { AreRenewals }
+{}
+
+/// Runs from a base, and which bases are lawful.
+pub fn bases()
+    ensures runs { AreFromBases }
+    ensures lawful { AreLawful }
+    ensures unlawful { AreUnlawful }
 {}
 
 /// Texts that pieces make.

@@ -1,7 +1,8 @@
 //! Laws of the definitions. Each function here does nothing: its contract is the law.
 
 ghost use Rattle.rule_base.specs.MatchLaws.{EachMatches, EachMatchIsListed, BindingsAreTheMatch, ConflictSetIsInOrder, NoneBeforeItself};
-ghost use Rattle.rule_base.specs.RunLaws.{RunsGoOn, RunsAreTold, StepsKeepStates, RunsKeepStates, StepsGiveFewTags, ThinNeverFails};
+ghost use Rattle.rule_base.specs.RunLaws.{RunsGoOn, RunsAreTold, RunsKeepRefraction, RunsFireOnce, RunsKeepMatching, RunsFireAnew, StepsKeepStates, RunsKeepStates, StepsGiveFewTags, ThinNeverFails};
+ghost use Rattle.rule_base.specs.BaseLaws.{OpeningsAreLawful, LawfulBasesAreStates, RunsLeaveBases};
 
 /// The conflict set has the choices that match, and no others.
 pub fn conflict_set_is_the_match()
@@ -25,9 +26,25 @@ pub fn runs_go_on()
     ensures { RunsGoOn }
 {}
 
-/// The journal of a run from an opening tells its choices in order, and no choice fires twice.
+/// The journal of a run tells its choices in order, and a run keeps the refraction.
 pub fn runs_are_told()
-    ensures { RunsAreTold }
+    ensures journal { RunsAreTold }
+    ensures refraction { RunsKeepRefraction }
+{}
+
+/// What stays fired: under `Once` all that fires, so that nothing fires twice; under `Renewed` what goes
+/// on matching, so that a choice which fires twice has stopped matching between.
+pub fn refraction_holds()
+    ensures once { RunsFireOnce }
+    ensures matching { RunsKeepMatching }
+    ensures anew { RunsFireAnew }
+{}
+
+/// A run may begin from each opening, and from where a run from a lawful base has come to.
+pub fn bases_are_lawful()
+    ensures openings { OpeningsAreLawful }
+    ensures states { LawfulBasesAreStates }
+    ensures runs { RunsLeaveBases }
 {}
 
 /// A step of a sound program leads from state to state, and so does a run.

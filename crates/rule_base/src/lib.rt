@@ -4,10 +4,12 @@
 #![tactic(auto)]
 
 mod action;
+mod base;
 mod cases;
 mod change;
 mod condition;
 mod element;
+mod elements;
 mod entry;
 pub mod examples;
 mod expression;
@@ -19,10 +21,12 @@ mod steps;
 mod value;
 
 pub use action::{Action, Item, Term};
+pub use base::{Base, Refraction};
 pub use cases::Cases;
 pub use change::{Change, Piece, Tagged};
 pub use condition::{Arg, Cond, Pred, Test};
-pub use element::Element;
+pub use element::{Element, ElementView};
+pub use elements::Elements;
 pub use entry::{Ending, Entry, FaultCause};
 pub use expression::{Expr, Op, Operand};
 pub use instantiation::{Candidate, Choice};

@@ -15,6 +15,7 @@ use Rattle.rule_base.specs.declared.entry.Entry.{Entry}
 use Rattle.rule_base.specs.declared.entry.FaultCause.TheVariants.{DivideByZero}
 use Rattle.rule_base.specs.declared.entry.Ending.TheVariants.{Quiet, Halted, Spent, Fault}
 use Rattle.rule_base.specs.declared.program.Program.{Program}
+use Rattle.rule_base.specs.declared.base.Refraction.TheVariants.{Once}
 use Rattle.rule_base.specs.Memory.{Memory}
 use Rattle.rule_base.specs.Expression.{Tree, single, joined, number, variable, tree_of}
 use Rattle.rule_base.specs.State.{State, opening}
@@ -29,11 +30,11 @@ plain actions = record { classes = record { name = 1; attrs = 2 ∷ [] } ∷ [];
 
 -- memory, next tag and whether the run is quiet, after these firings from this opening
 abbrev pub after : Program → Memory → List Choice → Option (Memory × ℕ × Bool)
-after program memory choices = option_map (λ (s : State). (s.memory, s.next, is_quiet program s)) (run program (opening memory) choices)
+after program memory choices = option_map (λ (s : State). (s.memory, s.next, is_quiet program s)) (run program (opening memory Once) choices)
 
 -- the journal's changes after these firings
 abbrev pub journal : Program → Memory → List Choice → Option (List (List Tagged))
-journal program memory choices = option_map (λ (s : State). changes_of s.entries) (run program (opening memory) choices)
+journal program memory choices = option_map (λ (s : State). changes_of s.entries) (run program (opening memory Once) choices)
   where
     changes_of : List Entry → List (List Tagged)
     changes_of [] = []
@@ -73,7 +74,7 @@ mixed = record {
 
 pub record AreTags : Type 0 where
   pub changes : journal mixed sevens (choice 0 (1 ∷ 2 ∷ []) ∷ []) ≡ Some ((Gone 1 ∷ Gone 2 ∷ Born (element 3 0 (int 5 ∷ [])) ∷ Born (element 4 0 (int 6 ∷ [])) ∷ []) ∷ [])
-  pub memory : option_map {U = Memory × ℕ} (λ (s : State). (s.memory, s.next)) (run mixed (opening sevens) (choice 0 (1 ∷ 2 ∷ []) ∷ []))
+  pub memory : option_map {U = Memory × ℕ} (λ (s : State). (s.memory, s.next)) (run mixed (opening sevens Once) (choice 0 (1 ∷ 2 ∷ []) ∷ []))
       ≡ Some (element 3 0 (int 5 ∷ []) ∷ element 4 0 (int 6 ∷ []) ∷ [], 5)
   -- a removal uses no tag
   pub removal : after (plain (action.Remove (0 ∷ []) ∷ [])) sevens (choice 0 (2 ∷ []) ∷ choice 0 (1 ∷ []) ∷ []) ≡ Some ([], 3, true)
@@ -84,7 +85,7 @@ abbrev pub writing : Program
 writing = plain (action.Write (Put (Con (Sym 7)) ∷ []) ∷ action.Halt ∷ action.Remove (0 ∷ []) ∷ [])
 
 pub record AreEntries : Type 0 where
-  pub whole : option_map {U = List Entry × List Choice} (λ (s : State). (s.entries, s.fired)) (run writing (opening sevens) (choice 0 (2 ∷ []) ∷ []))
+  pub whole : option_map {U = List Entry × List Choice} (λ (s : State). (s.entries, s.fired)) (run writing (opening sevens Once) (choice 0 (2 ∷ []) ∷ []))
       ≡ Some (record { choice = choice 0 (2 ∷ []); changes = Gone 2 ∷ []; pieces = piece.Put (Sym 7) ∷ []; halts = true } ∷ [], choice 0 (2 ∷ []) ∷ [])
 
 -- <k> - 1
@@ -99,36 +100,36 @@ pub record AreEndings : Type 0 where
   pub counted_down : (e : Expr) → tree_of e ≡ one_less → after (down e) three (choice 0 (1 ∷ []) ∷ choice 0 (2 ∷ []) ∷ choice 0 (3 ∷ []) ∷ []) ≡ Some (element 4 0 (int 0 ∷ []) ∷ [], 5, true)
   -- with a budget of exactly the firings that there are, the run is quiet and not spent
   pub quiet_at_budget : (e : Expr) → tree_of e ≡ one_less
-      → IsSomeAnd (run (down e) (opening three) (choice 0 (1 ∷ []) ∷ choice 0 (2 ∷ []) ∷ choice 0 (3 ∷ []) ∷ [])) (λ s. IsEnding (down e) 3 s Quiet)
+      → IsSomeAnd (run (down e) (opening three Once) (choice 0 (1 ∷ []) ∷ choice 0 (2 ∷ []) ∷ choice 0 (3 ∷ []) ∷ [])) (λ s. IsEnding (down e) 3 s Quiet)
   pub not_spent : (e : Expr) → tree_of e ≡ one_less
-      → IsSomeAnd (run (down e) (opening three) (choice 0 (1 ∷ []) ∷ choice 0 (2 ∷ []) ∷ choice 0 (3 ∷ []) ∷ [])) (λ s. IsEnding (down e) 3 s (Spent 3) → ⊥)
+      → IsSomeAnd (run (down e) (opening three Once) (choice 0 (1 ∷ []) ∷ choice 0 (2 ∷ []) ∷ choice 0 (3 ∷ []) ∷ [])) (λ s. IsEnding (down e) 3 s (Spent 3) → ⊥)
   -- with a smaller one it is spent and not quiet
   pub spent : (e : Expr) → tree_of e ≡ one_less
-      → IsSomeAnd (run (down e) (opening three) (choice 0 (1 ∷ []) ∷ choice 0 (2 ∷ []) ∷ [])) (λ s. IsEnding (down e) 2 s (Spent 2))
+      → IsSomeAnd (run (down e) (opening three Once) (choice 0 (1 ∷ []) ∷ choice 0 (2 ∷ []) ∷ [])) (λ s. IsEnding (down e) 2 s (Spent 2))
   pub not_quiet : (e : Expr) → tree_of e ≡ one_less
-      → IsSomeAnd (run (down e) (opening three) (choice 0 (1 ∷ []) ∷ choice 0 (2 ∷ []) ∷ [])) (λ s. IsEnding (down e) 2 s Quiet → ⊥)
+      → IsSomeAnd (run (down e) (opening three Once) (choice 0 (1 ∷ []) ∷ choice 0 (2 ∷ []) ∷ [])) (λ s. IsEnding (down e) 2 s Quiet → ⊥)
   -- no ending is past the budget, and none is spent before it
   pub past_budget : (e : Expr) → tree_of e ≡ one_less
-      → IsSomeAnd (run (down e) (opening three) (choice 0 (1 ∷ []) ∷ choice 0 (2 ∷ []) ∷ choice 0 (3 ∷ []) ∷ [])) (λ s. IsEnding (down e) 2 s Quiet → ⊥)
+      → IsSomeAnd (run (down e) (opening three Once) (choice 0 (1 ∷ []) ∷ choice 0 (2 ∷ []) ∷ choice 0 (3 ∷ []) ∷ [])) (λ s. IsEnding (down e) 2 s Quiet → ⊥)
   pub not_yet_spent : (e : Expr) → tree_of e ≡ one_less
-      → IsSomeAnd (run (down e) (opening three) (choice 0 (1 ∷ []) ∷ choice 0 (2 ∷ []) ∷ [])) (λ s. IsEnding (down e) 3 s (Spent 3) → ⊥)
+      → IsSomeAnd (run (down e) (opening three Once) (choice 0 (1 ∷ []) ∷ choice 0 (2 ∷ []) ∷ [])) (λ s. IsEnding (down e) 3 s (Spent 3) → ⊥)
   pub spent_is_the_budget : (e : Expr) → tree_of e ≡ one_less
-      → IsSomeAnd (run (down e) (opening three) (choice 0 (1 ∷ []) ∷ choice 0 (2 ∷ []) ∷ [])) (λ s. IsEnding (down e) 2 s (Spent 3) → ⊥)
+      → IsSomeAnd (run (down e) (opening three Once) (choice 0 (1 ∷ []) ∷ choice 0 (2 ∷ []) ∷ [])) (λ s. IsEnding (down e) 2 s (Spent 3) → ⊥)
   -- a rule that makes an element for each element never comes to rest
-  pub spent_in_growth : IsSomeAnd (run (plain (action.Make 0 1 [] ∷ [])) (opening (element 1 0 (Sym 0 ∷ []) ∷ [])) (choice 0 (1 ∷ []) ∷ choice 0 (2 ∷ []) ∷ choice 0 (3 ∷ []) ∷ [])) (λ s. IsEnding (plain (action.Make 0 1 [] ∷ [])) 3 s (Spent 3))
+  pub spent_in_growth : IsSomeAnd (run (plain (action.Make 0 1 [] ∷ [])) (opening (element 1 0 (Sym 0 ∷ []) ∷ []) Once) (choice 0 (1 ∷ []) ∷ choice 0 (2 ∷ []) ∷ choice 0 (3 ∷ []) ∷ [])) (λ s. IsEnding (plain (action.Make 0 1 [] ∷ [])) 3 s (Spent 3))
   -- a halt ends the run, and nothing fires after it
-  pub halted : IsSomeAnd (run (plain (action.Halt ∷ [])) (opening sevens) (choice 0 (1 ∷ []) ∷ [])) (λ s. IsEnding (plain (action.Halt ∷ [])) 5 s Halted)
-  pub not_halted : IsSomeAnd (run (plain []) (opening sevens) (choice 0 (1 ∷ []) ∷ [])) (λ s. IsEnding (plain []) 5 s Halted → ⊥)
-  pub halted_not_spent : IsSomeAnd (run (plain (action.Halt ∷ [])) (opening sevens) (choice 0 (1 ∷ []) ∷ [])) (λ s. IsEnding (plain (action.Halt ∷ [])) 1 s (Spent 1) → ⊥)
-  pub halted_not_quiet : IsSomeAnd (run (plain (action.Halt ∷ [])) (opening (element 1 0 (Sym 0 ∷ []) ∷ [])) (choice 0 (1 ∷ []) ∷ [])) (λ s. IsEnding (plain (action.Halt ∷ [])) 1 s Quiet → ⊥)
+  pub halted : IsSomeAnd (run (plain (action.Halt ∷ [])) (opening sevens Once) (choice 0 (1 ∷ []) ∷ [])) (λ s. IsEnding (plain (action.Halt ∷ [])) 5 s Halted)
+  pub not_halted : IsSomeAnd (run (plain []) (opening sevens Once) (choice 0 (1 ∷ []) ∷ [])) (λ s. IsEnding (plain []) 5 s Halted → ⊥)
+  pub halted_not_spent : IsSomeAnd (run (plain (action.Halt ∷ [])) (opening sevens Once) (choice 0 (1 ∷ []) ∷ [])) (λ s. IsEnding (plain (action.Halt ∷ [])) 1 s (Spent 1) → ⊥)
+  pub halted_not_quiet : IsSomeAnd (run (plain (action.Halt ∷ [])) (opening (element 1 0 (Sym 0 ∷ []) ∷ []) Once) (choice 0 (1 ∷ []) ∷ [])) (λ s. IsEnding (plain (action.Halt ∷ [])) 1 s Quiet → ⊥)
   pub after_halt : after (plain (action.Halt ∷ [])) sevens (choice 0 (1 ∷ []) ∷ choice 0 (2 ∷ []) ∷ []) ≡ None
   -- a fault names the first failing action of a choice that matches
   pub fault : (e : Expr) → tree_of e ≡ joined (number (pos 1)) Div (single (number (pos 0)))
-      → IsEnding (plain (action.Write (Put (Con (Sym 1)) ∷ []) ∷ action.Bind 0 (Compute e) ∷ [])) 1 (opening (element 1 0 (Sym 0 ∷ []) ∷ [])) (Fault (choice 0 (1 ∷ [])) 2 DivideByZero)
+      → IsEnding (plain (action.Write (Put (Con (Sym 1)) ∷ []) ∷ action.Bind 0 (Compute e) ∷ [])) 1 (opening (element 1 0 (Sym 0 ∷ []) ∷ []) Once) (Fault (choice 0 (1 ∷ [])) 2 DivideByZero)
   -- and not another action, another tag, or a fault when the budget is used up
   pub other_action : (e : Expr) → tree_of e ≡ joined (number (pos 1)) Div (single (number (pos 0)))
-      → IsEnding (plain (action.Write (Put (Con (Sym 1)) ∷ []) ∷ action.Bind 0 (Compute e) ∷ [])) 1 (opening (element 1 0 (Sym 0 ∷ []) ∷ [])) (Fault (choice 0 (1 ∷ [])) 1 DivideByZero) → ⊥
+      → IsEnding (plain (action.Write (Put (Con (Sym 1)) ∷ []) ∷ action.Bind 0 (Compute e) ∷ [])) 1 (opening (element 1 0 (Sym 0 ∷ []) ∷ []) Once) (Fault (choice 0 (1 ∷ [])) 1 DivideByZero) → ⊥
   pub absent_tag : (e : Expr) → tree_of e ≡ joined (number (pos 1)) Div (single (number (pos 0)))
-      → IsEnding (plain (action.Bind 0 (Compute e) ∷ [])) 1 (opening (element 1 0 (Sym 0 ∷ []) ∷ [])) (Fault (choice 0 (2 ∷ [])) 1 DivideByZero) → ⊥
+      → IsEnding (plain (action.Bind 0 (Compute e) ∷ [])) 1 (opening (element 1 0 (Sym 0 ∷ []) ∷ []) Once) (Fault (choice 0 (2 ∷ [])) 1 DivideByZero) → ⊥
   pub no_budget : (e : Expr) → tree_of e ≡ joined (number (pos 1)) Div (single (number (pos 0)))
-      → IsEnding (plain (action.Bind 0 (Compute e) ∷ [])) 0 (opening (element 1 0 (Sym 0 ∷ []) ∷ [])) (Fault (choice 0 (1 ∷ [])) 1 DivideByZero) → ⊥
+      → IsEnding (plain (action.Bind 0 (Compute e) ∷ [])) 0 (opening (element 1 0 (Sym 0 ∷ []) ∷ []) Once) (Fault (choice 0 (1 ∷ [])) 1 DivideByZero) → ⊥
