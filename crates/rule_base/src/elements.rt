@@ -119,6 +119,14 @@ impl Elements {
         None
     }
 
+    /// Takes all elements away, and keeps the room that they had.
+    pub fn clear(&mut self)
+        ensures { self.new ≡ [] }
+    {
+        self.places.clear();
+        self.values.clear();
+    }
+
     /// Adds an element at the end. After want of memory all is as before.
     pub fn push(&mut self, element: ElementView<'_>) -> Result<(), OutOfMemory>
         ensures ok { OnOk result (self.new ≡ self.old ++ element_in element.entry ∷ []) }

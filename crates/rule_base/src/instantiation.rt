@@ -3,7 +3,7 @@
 ghost use Rattle.std.specs.Prelude.{◌≡◌, ◌↔◌, IfOk, IsTrue};
 ghost use Rattle.rule_base.specs.State.{same_choice};
 
-use crate::Element;
+use crate::Elements;
 use ops_text::{Duplicate, OutOfMemory, Sequence};
 use std::alloc::Global;
 
@@ -19,7 +19,7 @@ pub struct Choice {
 #[derive(Debug, Drop)]
 pub struct Candidate {
     pub choice: Choice,
-    pub elements: Sequence<Element>,
+    pub elements: Elements,
 }
 
 impl Choice {
@@ -55,7 +55,7 @@ impl Candidate {
     {
         Ok(Candidate {
             choice: self.choice.copy(alloc)?,
-            elements: self.elements.duplicate(alloc)?,
+            elements: self.elements.copy(alloc)?,
         })
     }
 }
