@@ -2,7 +2,6 @@
 use Rattle.std.proofs.Common.{◌≡◌, ◌+◌, ◌<◌, [], ◌∷◌, ◌++◌, length, Bool, true, false, not, ◌&&◌, ◌||◌, Option, None, Some, Result, Ok, option_map, slice_get, get_or, is_ok, refl, sym, ◌∙◌, ap}
 use Rattle.std.specs.Option.{option_map_or}
 use Rattle.std.proofs.lemmas.Option.{slice_get_read, slice_get_within}
-use Rattle.std.proofs.lemmas.List.{map_push}
 use Rattle.std.proofs.lemmas.Bool.{false≢true}
 use Rattle.rule_base.specs.declared.entry.Entry.{Entry}
 use Rattle.rule_base.specs.declared.instantiation.Choice.{Choice}
@@ -12,13 +11,11 @@ use Rattle.rule_base.specs.Memory.{elements_at}
 use Rattle.rule_base.specs.Effect.{Effect, Failure, effect, removed_tags}
 use Rattle.rule_base.specs.Match.{match_of}
 use Rattle.rule_base.specs.State.{State, has_fired}
-use Rattle.rule_base.specs.Step.{committed, entry_of, may_fire, step, without}
+use Rattle.rule_base.specs.Step.{committed, entry_of, may_fire, memory_after, step, still_fired, without}
 use Rattle.rule_base.proofs.StepLemmas.{step-from_parts}
 use Rattle.firing_core.specs.declared.evaluation.Delta.{Delta}
 use Rattle.firing_core.specs.declared.planning.Plan.{Plan}
-use Rattle.firing_core.specs.declared.machine.Core.TheInside.{Inside}
-use Rattle.firing_core.specs.CoreState.{CoreState, choices_of}
-use Rattle.firing_core.specs.CoreFields.{state_in}
+use Rattle.firing_core.specs.CoreState.{CoreState}
 use Rattle.firing_core.specs.Reached.{effect_in}
 use Rattle.firing_core.specs.Plan.{IsPlanOf, Plans}
 
@@ -45,18 +42,18 @@ Plans-rule k c rule delta plan at is planned =
     record { done = effect_in delta; effect = ap of_rule at ∙ ap (λ r. Some r) is; planned = planned }
 
 -- two states with the same parts are the same
-same_state : (s t : State) → s.memory ≡ t.memory → s.next ≡ t.next → s.fired ≡ t.fired → s.entries ≡ t.entries → s.halted ≡ t.halted → s ≡ t
-same_state s t memory next fired entries halted = λ i. record { memory = memory i; next = next i; fired = fired i; entries = entries i; halted = halted i }
+pub same_state : (s t : State) → s.memory ≡ t.memory → s.next ≡ t.next → s.fired ≡ t.fired → s.entries ≡ t.entries → s.halted ≡ t.halted → s.refraction ≡ t.refraction → s ≡ t
+same_state s t memory next fired entries halted refraction =
+    λ i. record { memory = memory i; next = next i; fired = fired i; entries = entries i; halted = halted i; refraction = refraction i }
 
--- fields that hold what the plan says hold the state after the step
-pub step-planned : (k : CoreState) (c : Choice) (plan : Plan) (after : Inside) → Plans k c plan → may_fire k.program k.state c ≡ true → k.state.fired ≡ choices_of k.state.entries → after.memory.items ≡ without k.state.memory plan.gone ++ plan.born → after.next ≡ k.state.next + length plan.born → after.entries.items ≡ k.state.entries ++ plan.entry ∷ [] → after.halted ≡ (k.state.halted || plan.entry.halts) → step k.program k.state c ≡ Some (state_in after)
-step-planned k c plan after plans may fired memory next entries halted =
+-- a state that is what the plan says is the state after the step
+pub step-planned : (k : CoreState) (c : Choice) (plan : Plan) (after : State) → Plans k c plan → may_fire k.program k.state c ≡ true → after.memory ≡ without k.state.memory plan.gone ++ plan.born → after.next ≡ k.state.next + length plan.born → after.fired ≡ still_fired k.state.refraction k.program after.memory (k.state.fired ++ c ∷ []) → after.entries ≡ k.state.entries ++ plan.entry ∷ [] → after.halted ≡ (k.state.halted || plan.entry.halts) → after.refraction ≡ k.state.refraction → step k.program k.state c ≡ Some after
+step-planned k c plan after plans may memory next fired entries halted refraction =
     let planned = plans.planned in
-    let entry = entry_of k.state.next c plans.done in
-    let entries_are : after.entries.items ≡ k.state.entries ++ entry ∷ [] = entries ∙ ap (λ e. k.state.entries ++ e ∷ []) planned.entry in
-    let fired_are : choices_of after.entries.items ≡ k.state.fired ++ c ∷ [] = ap choices_of entries_are ∙ map_push (λ (e : Entry). e.choice) k.state.entries entry ∙ ap (λ cs. cs ++ c ∷ []) (sym fired) in
-    let memory_is = memory ∙ ap (λ gone. without k.state.memory gone ++ plan.born) planned.gone ∙ ap (λ new. without k.state.memory (removed_tags plans.done.changes) ++ new) planned.born in
+    let entries_are : after.entries ≡ k.state.entries ++ entry_of k.state.next c plans.done ∷ [] = entries ∙ ap (λ e. k.state.entries ++ e ∷ []) planned.entry in
+    let memory_is : after.memory ≡ memory_after k.state plans.done = memory ∙ ap (λ gone. without k.state.memory gone ++ plan.born) planned.gone ∙ ap (λ new. without k.state.memory (removed_tags plans.done.changes) ++ new) planned.born in
+    let fired_are = fired ∙ ap (λ m. still_fired k.state.refraction k.program m (k.state.fired ++ c ∷ [])) memory_is in
     let next_is = next ∙ ap (λ new. k.state.next + length new) planned.born in
     let halted_is = halted ∙ ap (λ (e : Entry). k.state.halted || e.halts) planned.entry in
-    let same : state_in after ≡ committed k.state c plans.done = same_state (state_in after) (committed k.state c plans.done) memory_is next_is fired_are entries_are halted_is in
+    let same : after ≡ committed k.program k.state c plans.done = same_state after (committed k.program k.state c plans.done) memory_is next_is fired_are entries_are halted_is refraction in
     step-from_parts k.program k.state c plans.done may plans.effect ∙ ap (λ s. Some s) (sym same)

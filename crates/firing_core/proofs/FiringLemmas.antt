@@ -12,7 +12,7 @@ use Rattle.firing_core.specs.Firing.{Fires}
 use Rattle.firing_core.specs.FinishedRun.{GoesOn}
 
 pub GoesOn-itself : (k : CoreState) → GoesOn k k
-GoesOn-itself k = record { stays = refl; journal = ([], sym (append-nil k.state.entries)) }
+GoesOn-itself k = record { same = record { of_program = refl; from_base = refl; with_budget = refl }; journal = ([], sym (append-nil k.state.entries)) }
 
 -- the journal after a firing
 journal_after : (old new : CoreState) (c : Choice) → Fires old new c → (entry : Entry) × (new.state.entries ≡ old.state.entries ++ entry ∷ [])
@@ -24,7 +24,11 @@ pub GoesOn-fires : (first old new : CoreState) (c : Choice) → GoesOn first old
 GoesOn-fires first old new c goes fires =
     let last = journal_after old new c fires in
     record {
-      stays = fires.stays ∙ ap (λ (k : CoreState). let r : CoreState = record k { state = new.state } in r) goes.stays;
+      same = record {
+        of_program = fires.same.of_program ∙ goes.same.of_program;
+        from_base = fires.same.from_base ∙ goes.same.from_base;
+        with_budget = fires.same.with_budget ∙ goes.same.with_budget;
+      };
       journal = (goes.journal.0 ++ last.0 ∷ [], last.1 ∙ ap (λ es. es ++ last.0 ∷ []) goes.journal.1 ∙ append_assoc first.state.entries goes.journal.0 (last.0 ∷ []));
     }
 

@@ -1,42 +1,45 @@
--- Lawful cores: a core at its opening is one and ready for a firing, and a firing keeps it so.
-use Rattle.std.proofs.Common.{◌≡◌, ℕ, ◌+◌, ◌^◌, ◌<◌, [], ◌∷◌, ◌++◌, length, true, Some, Ok, option_and_then, slice_get, refl, ◌∙◌, ap, subst, arith}
+-- Lawful cores: a core at its base is one and ready for a firing, and a firing keeps it so.
+use Rattle.std.proofs.Common.{◌≡◌, ℕ, ◌+◌, ◌^◌, ◌<◌, [], ◌∷◌, ◌++◌, length, true, Some, Ok, option_and_then, slice_get, refl, ◌∙◌, ap, arith}
 use Rattle.std.proofs.lemmas.List.{length_push, map_push}
 use Rattle.rule_base.specs.declared.entry.Entry.{Entry}
 use Rattle.rule_base.specs.declared.instantiation.Choice.{Choice}
 use Rattle.rule_base.specs.declared.program.Program.{Program}
 use Rattle.rule_base.specs.declared.program.Rule.{Rule}
-use Rattle.rule_base.specs.Memory.{HasSize, Memory, elements_at}
-use Rattle.rule_base.specs.Opening.{IsOpening}
+use Rattle.rule_base.specs.Memory.{HasSize, elements_at}
+use Rattle.rule_base.specs.declared.base.Base.{Base}
 use Rattle.rule_base.specs.Bindings.{no_bindings}
 use Rattle.rule_base.specs.Sound.{IsSound, IsSoundRule, sizes_of}
 use Rattle.rule_base.specs.Thin.{is_thin, is_thin_rule}
 use Rattle.rule_base.specs.Effect.{Effect, effect}
-use Rattle.rule_base.specs.State.{State, count, opening}
+use Rattle.rule_base.specs.State.{State, choices_of, count, start}
 use Rattle.rule_base.specs.Step.{born, entry_of, step}
 use Rattle.rule_base.specs.Run.{run}
 use Rattle.rule_base.proofs.EachLemmas.{Each-list_all, Each-slice_get}
 use Rattle.rule_base.proofs.EffectLemmas.{IsSizedEffect-sound, length-born}
-use Rattle.rule_base.proofs.MemoryLemmas.{AllBelow, AllBelow-consecutive}
+use Rattle.rule_base.specs.Base.{IsLawfulBase}
 use Rattle.rule_base.specs.Ending.{IsBudget}
+use Rattle.rule_base.proofs.BaseLemmas.{IsState-start}
+use Rattle.rule_base.proofs.RunLemmas.{refraction-step}
 use Rattle.rule_base.proofs.MachineLemmas.{Each-elements_at, IsKeepingStep-sound}
 use Rattle.rule_base.proofs.StepLemmas.{IsStep-from_step, run-append}
-use Rattle.firing_core.specs.CoreState.{CoreState, choices_of}
+use Rattle.firing_core.specs.CoreState.{CoreState}
 use Rattle.firing_core.specs.Lawful.{IsLawful}
 use Rattle.firing_core.specs.Kept.{IsKept}
 use Rattle.firing_core.specs.Matching.{MayMatch}
 use Rattle.firing_core.proofs.MatchingLemmas.{MayMatch-sound}
 
-pub IsKept-opening : (program : Program) (elements : Memory) (budget : ℕ) → IsSound program → is_thin program ≡ true → IsOpening (sizes_of program.classes) elements → IsBudget budget → IsKept (record { program = program; opening = elements; budget = budget; state = opening elements })
-IsKept-opening program elements budget sound thin began few = record {
+pub IsKept-start : (program : Program) (base : Base) (budget : ℕ) → IsSound program → is_thin program ≡ true → IsLawfulBase program base → IsBudget budget → IsKept (record { program = program; base = base; budget = budget; state = start base })
+IsKept-start program base budget sound thin began few = record {
   lawful = record { sound = sound; began = began; ran = refl; within = omega arith; few = few };
   thin = thin;
-  state = record { elements = began.memory; below = let same : 1 + length elements ≡ length elements + 1 = omega arith in subst (λ n. AllBelow n elements) same (AllBelow-consecutive 1 elements began.consecutive) };
+  state = IsState-start program base began;
   next_is_low = omega (arith, began.few);
+  refraction = refl;
 }
 
 -- a core whose budget is not used up is lawful and ready again after a step
-pub IsKept-step : (k : CoreState) (c : Choice) (after : State) → IsKept k → count k.state < k.budget → k.state.fired ≡ choices_of k.state.entries → step k.program k.state c ≡ Some after → IsKept (record k { state = after })
-IsKept-step k c after kept within fired steps =
+pub IsKept-step : (k : CoreState) (c : Choice) (after : State) → IsKept k → count k.state < k.budget → step k.program k.state c ≡ Some after → IsKept (record k { state = after })
+IsKept-step k c after kept within steps =
     let lawful = kept.lawful in
     let made = IsStep-from_step k.program k.state c after steps in
     let keeps = IsKeepingStep-sound k.program k.state c after lawful.sound kept.state steps in
@@ -49,13 +52,14 @@ IsKept-step k c after kept within fired steps =
       lawful = record {
         sound = lawful.sound;
         began = lawful.began;
-        ran = ap (run k.program (opening k.opening)) choices_are ∙ run-append k.program (opening k.opening) (choices_of k.state.entries) (c ∷ []) ∙ ap (option_and_then (λ (s : State). run k.program s (c ∷ []))) lawful.ran ∙ last;
+        ran = ap (run k.program (start k.base)) choices_are ∙ run-append k.program (start k.base) (choices_of k.state.entries) (c ∷ []) ∙ ap (option_and_then (λ (s : State). run k.program s (c ∷ []))) lawful.ran ∙ last;
         within = omega (arith, counted);
         few = lawful.few;
       };
       thin = kept.thin;
       state = keeps.state;
       next_is_low = omega (arith, counted, keeps.near, kept.next_is_low);
+      refraction = refraction-step k.program k.state c after steps ∙ kept.refraction;
     }
 
 -- the tags of the elements that a firing makes fit in 64 bits

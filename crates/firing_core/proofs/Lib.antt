@@ -1,6 +1,7 @@
 -- the match
 pub mod ListLemmas
 pub mod MatchingLemmas
+pub mod AcceptanceLemmas
 pub mod FilterLemmas
 pub mod UnfiredLemmas
 -- the firing
@@ -8,3 +9,4 @@ pub mod PieceLemmas
 pub mod FiringLemmas
 pub mod LawfulLemmas
 pub mod CommitLemmas
+pub mod FieldLemmas

@@ -1,14 +1,15 @@
 -- What the first unfired choice says of the run: it matches, and the run is not quiet.
 use Rattle.std.proofs.Common.{◌≡◌, List, [], ◌∷◌, Bool, true, false, not, cond, ◌&&◌, Option, Some, None, refl, sym, ◌∙◌, ap}
-use Rattle.std.specs.List.{find, list_all}
+use Rattle.std.specs.List.{AllByRecursion, find, list_all, list_any}
 use Rattle.rule_base.specs.declared.instantiation.Choice.{Choice}
 use Rattle.rule_base.specs.ConflictSet.{conflict_set}
-use Rattle.rule_base.specs.State.{has_fired}
-use Rattle.rule_base.specs.Step.{matches}
+use Rattle.rule_base.specs.State.{has_fired, same_choice}
+use Rattle.rule_base.specs.Step.{is_listed, matches}
 use Rattle.rule_base.proofs.EachLemmas.{Each-find}
 use Rattle.rule_base.proofs.ConflictSetLemmas.{AllMatch-conflict_set}
+use Rattle.rule_base.proofs.StillFiredLemmas.{AllListed-conflict_set, still_fired-listed}
 use Rattle.firing_core.specs.declared.machine.Core.TheInside.{Inside}
-use Rattle.firing_core.specs.CoreFields.{core_in, HoldsKept}
+use Rattle.firing_core.specs.CoreFields.{core_in, HoldsKept, state_in}
 use Rattle.firing_core.specs.Firing.{IsNext}
 use Rattle.firing_core.specs.Unfired.{first_unfired}
 
@@ -30,14 +31,32 @@ fails_first : {X : Type 0} (p : X → Bool) (xs : List X) (found : X) → find (
 fails_first p [] found is = absurd (let wrong : ⊥ = cc in wrong)
 fails_first p (x ∷ xs) found is = fails_head p (p x) (list_all p xs) x found (find (λ y. not (p y)) xs) refl is (fails_first p xs found)
 
+-- a search by tests that are the same of each element
+found_by : {X : Type 0} (p q : X → Bool) (xs : List X) → AllByRecursion (λ x. p x ≡ q x) xs → find (λ x. not (p x)) xs ≡ find (λ x. not (q x)) xs
+found_by p q [] same = refl
+found_by p q (x ∷ xs) same = ap (λ b. cond (not b) (Some x) (find (λ y. not (p y)) xs)) same.0 ∙ ap (λ later. cond (not (q x)) (Some x) later) (found_by p q xs same.1)
+
+-- of the choices that are kept as fired, one of the conflict set has fired
+kept_fired : (core : Inside) (choices : List Choice) → AllByRecursion (λ (c : Choice). is_listed core.program.value core.memory c ≡ true) choices → AllByRecursion (λ (c : Choice). list_any (same_choice c) core.fired.items ≡ has_fired (state_in core) c) choices
+kept_fired core [] listed = tt
+kept_fired core (c ∷ choices) listed =
+    (sym (still_fired-listed core.base.refraction core.program.value core.memory core.fired.items c listed.0), kept_fired core choices listed.1)
+
 -- the answer of the filters says what the core's call promises
-pub first_unfired_is : (core : Inside) (found : Option Choice) → HoldsKept core → found ≡ first_unfired core.entries.items (conflict_set core.program.value core.memory.items) → IsNext (core_in core) found
-first_unfired_is core None kept is = all_from_none (has_fired (core_in core).state) (conflict_set core.program.value core.memory.items) (sym is)
-first_unfired_is core (Some c) kept is =
-    let choices = conflict_set core.program.value core.memory.items in
-    let first = fails_first (has_fired (core_in core).state) choices c (sym is) in
-    record {
-      matching = Each-find (λ (c : Choice). matches core.program.value core.memory.items c ≡ true) (λ (c : Choice). not (has_fired (core_in core).state c)) choices c (AllMatch-conflict_set core.program.value core.memory.items kept.state.elements.rising) (sym is);
-      unfired = first.0;
-      not_quiet = first.1;
-    }
+pub first_unfired_is : (core : Inside) (found : Option Choice) → HoldsKept core → found ≡ first_unfired core.fired.items (conflict_set core.program.value core.memory) → IsNext (core_in core) found
+first_unfired_is core found kept is =
+    let choices = conflict_set core.program.value core.memory in
+    let rises = kept.state.elements.rising in
+    let fired = kept_fired core choices (AllListed-conflict_set core.program.value core.memory rises) in
+    is_next core found kept (is ∙ found_by (λ c. list_any (same_choice c) core.fired.items) (has_fired (state_in core)) choices fired)
+  where
+    is_next : (core : Inside) (found : Option Choice) → HoldsKept core → found ≡ find (λ c. not (has_fired (state_in core) c)) (conflict_set core.program.value core.memory) → IsNext (core_in core) found
+    is_next core None kept is = all_from_none (has_fired (state_in core)) (conflict_set core.program.value core.memory) (sym is)
+    is_next core (Some c) kept is =
+        let choices = conflict_set core.program.value core.memory in
+        let first = fails_first (has_fired (state_in core)) choices c (sym is) in
+        record {
+          matching = Each-find (λ (c : Choice). matches core.program.value core.memory c ≡ true) (λ (c : Choice). not (has_fired (state_in core) c)) choices c (AllMatch-conflict_set core.program.value core.memory kept.state.elements.rising) (sym is);
+          unfired = first.0;
+          not_quiet = first.1;
+        }

@@ -1,22 +1,22 @@
 -- What contracts see of a core.
-use Rattle.std.specs.Prelude.{ℕ, List, map}
-use Rattle.rule_base.specs.declared.instantiation.Choice.{Choice}
-use Rattle.rule_base.specs.declared.entry.Entry.{Entry}
+use Rattle.std.specs.Prelude.{◌≡◌, ℕ}
 use Rattle.rule_base.specs.declared.program.Program.{Program}
-use Rattle.rule_base.specs.Memory.{Memory}
+use Rattle.rule_base.specs.declared.base.Base.{Base}
 use Rattle.rule_base.specs.State.{State}
 
--- the program, the elements that the run began with, how many firings it may have, and the machine's state
+-- the program, the base that the run began from, how many firings it may have, and the machine's state
 pub record CoreState : Type 0 where
   pub program : Program
-  pub opening : Memory
+  pub base : Base
   pub budget : ℕ
   pub state : State
 
--- the core of a program, an opening and a budget that stands at this state
-abbrev pub core_at : Program → Memory → ℕ → State → CoreState
-core_at program elements budget s = record { program = program; opening = elements; budget = budget; state = s }
+-- the core runs this program, from this base, with this budget
+pub record IsRunOf (program : Program) (base : Base) (budget : ℕ) (k : CoreState) : Type 0 where
+  pub of_program : k.program ≡ program
+  pub from_base : k.base ≡ base
+  pub with_budget : k.budget ≡ budget
 
--- the choices that a journal's entries fired, in order
-abbrev pub choices_of : List Entry → List Choice
-choices_of entries = map (λ (entry : Entry). entry.choice) entries
+-- the second core is of the same run as the first
+abbrev pub IsSameRun : CoreState → CoreState → Type 0
+IsSameRun old new = IsRunOf old.program old.base old.budget new

@@ -3,22 +3,22 @@ use Rattle.std.specs.Prelude.{◌≡◌, ℕ, List, ◌++◌, Some}
 use Rattle.rule_base.specs.declared.entry.Entry.{Entry}
 use Rattle.rule_base.specs.declared.entry.Ending.{Ending}
 use Rattle.rule_base.specs.declared.program.Program.{Program}
-use Rattle.rule_base.specs.Memory.{Memory}
-use Rattle.rule_base.specs.State.{State, opening}
+use Rattle.rule_base.specs.declared.base.Base.{Base}
+use Rattle.rule_base.specs.State.{State, choices_of, start}
 use Rattle.rule_base.specs.Run.{run}
 use Rattle.rule_base.specs.Ending.{IsEnding}
-use Rattle.firing_core.specs.CoreState.{CoreState, choices_of}
+use Rattle.firing_core.specs.CoreState.{CoreState, IsSameRun}
 
 -- the first journal begins with all of the second
 abbrev pub BeginsWith : List Entry → List Entry → Type 0
 BeginsWith journal first = (more : List Entry) × (journal ≡ first ++ more)
 
--- a core that has gone on: the program, the opening and the budget stay, and the journal has the old one as a prefix
+-- a core that has gone on: it is of the same run, and its journal has the old one as a prefix
 pub record GoesOn (old new : CoreState) : Type 0 where
-  pub stays : new ≡ record old { state = new.state }
+  pub same : IsSameRun old new
   pub journal : BeginsWith new.state.entries old.state.entries
 
--- from these elements the program has run to this state, which may end so within this budget
-pub record IsFinishedRun (program : Program) (elements : Memory) (budget : ℕ) (state : State) (end : Ending) : Type 0 where
-  pub ran : run program (opening elements) (choices_of state.entries) ≡ Some state
+-- from this base the program has run to this state, which may end so within this budget
+pub record IsFinishedRun (program : Program) (base : Base) (budget : ℕ) (state : State) (end : Ending) : Type 0 where
+  pub ran : run program (start base) (choices_of state.entries) ≡ Some state
   pub ends : IsEnding program budget state end

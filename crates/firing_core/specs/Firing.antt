@@ -4,7 +4,7 @@ use Rattle.rule_base.specs.declared.instantiation.Choice.{Choice}
 use Rattle.rule_base.specs.State.{IsUnfired}
 use Rattle.rule_base.specs.Step.{matches, step}
 use Rattle.rule_base.specs.Ending.{is_quiet}
-use Rattle.firing_core.specs.CoreState.{CoreState}
+use Rattle.firing_core.specs.CoreState.{CoreState, IsSameRun}
 
 -- the choice matches and has not fired, so that the run is not quiet
 pub record IsLeft (k : CoreState) (c : Choice) : Type 0 where
@@ -20,4 +20,4 @@ IsNext k (Some c) = IsLeft k c
 -- the choice has fired: the state is one step further, and all else stays
 pub record Fires (old new : CoreState) (c : Choice) : Type 0 where
   pub steps : step old.program old.state c ≡ Some new.state
-  pub stays : new ≡ record old { state = new.state }
+  pub same : IsSameRun old new

@@ -13,4 +13,6 @@ pub record IsKept (k : CoreState) : Type 0 where
   pub thin : is_thin k.program ≡ true
   pub state : IsState (sizes_of k.program.classes) k.state
   -- a firing has at most 64 actions, and each makes at most one element
-  pub next_is_low : k.state.next ≤ 2 ^ 62 + 64 * count k.state
+  pub next_is_low : k.state.next ≤ 2 ^ 63 + 64 * count k.state
+  -- the state has the refraction of the base
+  pub refraction : k.state.refraction ≡ k.base.refraction

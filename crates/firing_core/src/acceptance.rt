@@ -3,21 +3,24 @@
 ghost use Rattle.std.specs.Prelude.{◌≡◌, Some, None, length};
 ghost use Rattle.std.specs.Bool.{OnTrue, OnFalse};
 ghost use Rattle.rule_base.specs.Acceptance.{accepts};
+ghost use Rattle.rule_base.specs.Views.{element_in};
 ghost use Rattle.rule_base.specs.Match.{accepts_some};
 ghost use Rattle.element_tests.specs.Asking.{MayAsk};
 ghost use Rattle.firing_core.specs.Matching.{MayFilter};
 
 use element_tests::{Binds, unbind};
-use rule_base::{Cond, Element, Steps};
+use rule_base::{Cond, ElementView, Elements, Steps};
 use std::marker::Brand;
 use std::sync::ledger::{Blank, Ledger};
 
 /// Whether the condition element accepts the element. The row then has the new bindings, and is else
 /// as before.
-pub fn accepts(cond: &Cond, binds: &mut Binds, element: &Element) -> bool
-    requires { MayAsk cond.now binds.old element.now }
-    ensures accepted { OnTrue result (accepts cond.now binds.old element.now ≡ Some binds.new) }
-    ensures refused { OnFalse result (accepts cond.now binds.old element.now ≡ None) }
+pub fn accepts(cond: &Cond, binds: &mut Binds, element: ElementView<'_>) -> bool
+    requires { MayAsk cond.now binds.old (element_in element) }
+    ensures accepted { OnTrue result
+        (accepts cond.now binds.old (element_in element.entry) ≡ Some binds.new) }
+    ensures refused { OnFalse result
+        (accepts cond.now binds.old (element_in element.entry) ≡ None) }
     ensures kept { OnFalse result (binds.new ≡ binds.old) }
     ensures places { length binds.new ≡ length binds.old }
 {
@@ -25,13 +28,20 @@ pub fn accepts(cond: &Cond, binds: &mut Binds, element: &Element) -> bool
 }
 
 /// The same, on a ledger of its own.
-fn accepts_on<L: Ledger>(cond: &Cond, binds: &mut Binds, element: &Element, blank: Blank) -> bool
-    requires may { MayAsk cond.now binds.old element.now }
+fn accepts_on<L: Ledger>(
+    cond: &Cond,
+    binds: &mut Binds,
+    element: ElementView<'_>,
+    blank: Blank,
+) -> bool
+    requires may { MayAsk cond.now binds.old (element_in element) }
     requires name { blank.name ≡ L.name }
     requires parts { blank.parts ≡ L.parts }
     requires one { blank.parts ≡ 1 }
-    ensures accepted { OnTrue result (accepts cond.now binds.old element.now ≡ Some binds.new) }
-    ensures refused { OnFalse result (accepts cond.now binds.old element.now ≡ None) }
+    ensures accepted { OnTrue result
+        (accepts cond.now binds.old (element_in element.entry) ≡ Some binds.new) }
+    ensures refused { OnFalse result
+        (accepts cond.now binds.old (element_in element.entry) ≡ None) }
     ensures kept { OnFalse result (binds.new ≡ binds.old) }
     ensures places { length binds.new ≡ length binds.old }
 {
@@ -40,13 +50,13 @@ fn accepts_on<L: Ledger>(cond: &Cond, binds: &mut Binds, element: &Element, blan
 }
 
 /// Whether the condition element accepts some element of the memory. The row is as before.
-pub fn accepts_some(cond: &Cond, memory: &[Element], binds: &mut Binds) -> bool
+pub fn accepts_some(cond: &Cond, memory: &Elements, binds: &mut Binds) -> bool
     requires { MayFilter cond.now memory.now binds.old }
     ensures found { result ≡ accepts_some cond.now binds.old memory.now }
     ensures kept { binds.new ≡ binds.old }
 {
-    for element in memory {
-        if accepts(cond, binds, element) {
+    for at in 0..memory.len() {
+        if accepts(cond, binds, memory.at(at)) {
             unbind(cond, binds);
             return true;
         }

@@ -85,7 +85,7 @@ fn matched(conds: &[Cond], elements: &[Element], binds: &mut Binds) -> bool
     let Some((element, elements)) = elements.split_first() else {
         return false;
     };
-    accepts(cond, binds, element) && matched(conds, elements, binds)
+    accepts(cond, binds, element.view()) && matched(conds, elements, binds)
 }
 
 /// Takes one action.

@@ -1,18 +1,18 @@
 //! Runs to their ending, on the caller's thread.
 
 ghost use Rattle.std.specs.Prelude.{◌≡◌, ◌≤◌, true, IfOk};
-ghost use Rattle.rule_base.specs.Opening.{IsOpening};
-ghost use Rattle.rule_base.specs.Sound.{IsSound, sizes_of};
+ghost use Rattle.rule_base.specs.Sound.{IsSound};
 ghost use Rattle.rule_base.specs.Thin.{is_thin};
+ghost use Rattle.rule_base.specs.Base.{IsLawfulBase};
 ghost use Rattle.rule_base.specs.Ending.{IsBudget, IsEnding};
-ghost use Rattle.firing_core.specs.CoreState.{core_at};
+ghost use Rattle.firing_core.specs.CoreState.{IsRunOf};
 ghost use Rattle.firing_core.specs.Lawful.{IsLawful};
 ghost use Rattle.firing_core.specs.FinishedRun.{GoesOn, IsFinishedRun};
 ghost use Rattle.firing_core.specs.Turn.{IsTurn};
 
 use crate::Core;
 use ops_text::OutOfMemory;
-use rule_base::{Choice, Element, Ending, Program};
+use rule_base::{Base, Choice, Ending, Program};
 use std::alloc::Global;
 use std::sync::Arc;
 
@@ -49,25 +49,24 @@ pub fn finish(alloc: Global, core: Core) -> Result<Finished, OutOfMemory>
     }
 }
 
-/// Runs a program from its opening to an ending.
+/// Runs a program from a base to an ending.
 pub fn run_alone(
     alloc: Global,
     program: Arc<Program>,
-    opening: &[Element],
+    base: Base,
     budget: u64,
 ) -> Result<Finished, OutOfMemory>
     requires sound { IsSound program.value }
     requires thin { is_thin program.value ≡ true }
-    requires begins { IsOpening (sizes_of program.value.classes) opening.now }
+    requires lawful { IsLawfulBase program.value base }
     requires budget { IsBudget budget }
     ensures finished { IfOk result
-        (λ finished. IsFinishedRun program.value opening.now budget
+        (λ finished. IsFinishedRun program.value base budget
         finished.core.state finished.ending) }
-    ensures core { IfOk result
-        (λ finished. finished.core ≡ core_at program.value opening.now budget finished.core.state) }
-    ensures lawful { IfOk result (λ finished. IsLawful finished.core) }
+    ensures run { IfOk result (λ finished. IsRunOf program.value base budget finished.core) }
+    ensures core { IfOk result (λ finished. IsLawful finished.core) }
 {
-    let core = Core::new(alloc, program, opening, budget)?;
+    let core = Core::new(alloc, program, base, budget)?;
     finish(alloc, core)
 }
 

@@ -11,26 +11,26 @@ ghost use Rattle.firing_core.specs.Unfired.{is_unfired_in, first_unfired};
 use crate::acceptance::{accepts, accepts_some};
 use element_tests::{Binds, unbind};
 use ops_text::{OutOfMemory, Sequence};
-use rule_base::{Choice, Cond, Element, Entry, Program, Rule};
+use rule_base::{Choice, Cond, Elements, Program, Rule};
 use std::alloc::Global;
 
-/// The first choice of the conflict set that no entry of the journal has, or none where each has
+/// The first choice of the conflict set that is not among those that have fired, or none where each has
 /// fired. The instantiations of one rule are looked for at once, those of later rules only where all
 /// of its own fired before.
 pub fn first_unfired(
     alloc: Global,
     program: &Program,
-    memory: &[Element],
-    entries: &[Entry],
+    memory: &Elements,
+    fired: &[Choice],
 ) -> Result<Option<Choice>, OutOfMemory>
     requires sound { IsSound program.now }
     requires memory { IsMemory (sizes_of program.now.classes) memory.now }
     ensures { IfOk result
-        (λ found. found ≡ first_unfired entries.now (conflict_set program.now memory.now)) }
+        (λ found. found ≡ first_unfired fired.now (conflict_set program.now memory.now)) }
 {
     let mut number = 0;
     for rule in program.rules.as_slice() {
-        let found = first_unfired_of(alloc, number, rule, memory, entries)?;
+        let found = first_unfired_of(alloc, number, rule, memory, fired)?;
         if found.is_some() {
             return Ok(found);
         }
@@ -44,18 +44,18 @@ fn first_unfired_of(
     alloc: Global,
     number: u32,
     rule: &Rule,
-    memory: &[Element],
-    entries: &[Entry],
+    memory: &Elements,
+    fired: &[Choice],
 ) -> Result<Option<Choice>, OutOfMemory>
     requires { MayMatch rule.now.conds memory.now (no_bindings rule.now.vars) }
     ensures { IfOk result
         (λ found. found ≡
-        first_unfired entries.now (instantiations memory.now (number, rule.now))) }
+        first_unfired fired.now (instantiations memory.now (number, rule.now))) }
 {
     let mut binds = Binds::new(alloc, rule.vars)?;
     let lists = tag_lists(alloc, rule.conds.as_slice(), memory, &mut binds)?;
     for tags in lists.as_slice() {
-        if !has_fired(number, tags.as_slice(), entries) {
+        if !has_fired(number, tags.as_slice(), fired) {
             let tags = Sequence::from_vec(Vec::from_slice(alloc, tags.as_slice())?);
             return Ok(Some(Choice { rule: number, tags }));
         }
@@ -63,12 +63,12 @@ fn first_unfired_of(
     Ok(None)
 }
 
-/// Whether an entry of the journal has this rule with these tags.
-fn has_fired(number: u32, tags: &[u64], entries: &[Entry]) -> bool
-    ensures { not result ≡ is_unfired_in entries.now (record { rule = number; tags = tags.now }) }
+/// Whether this rule with these tags is among the choices.
+fn has_fired(number: u32, tags: &[u64], fired: &[Choice]) -> bool
+    ensures { not result ≡ is_unfired_in fired.now (record { rule = number; tags = tags.now }) }
 {
-    for entry in entries {
-        if number == entry.choice.rule && tags == entry.choice.tags.as_slice() {
+    for choice in fired {
+        if number == choice.rule && tags == choice.tags.as_slice() {
             return true;
         }
     }
@@ -81,7 +81,7 @@ fn has_fired(number: u32, tags: &[u64], entries: &[Entry]) -> bool
 fn tag_lists(
     alloc: Global,
     conds: &[Cond],
-    memory: &[Element],
+    memory: &Elements,
     binds: &mut Binds,
 ) -> Result<Vec<Sequence<u64>>, OutOfMemory>
     requires { MayMatch conds.now memory.now binds.old }
@@ -109,7 +109,7 @@ fn tag_lists_from(
     alloc: Global,
     cond: &Cond,
     rest: &[Cond],
-    memory: &[Element],
+    memory: &Elements,
     binds: &mut Binds,
 ) -> Result<Vec<Sequence<u64>>, OutOfMemory>
     requires may { MayMatch (cond.now ∷ rest.now) memory.now binds.old }
@@ -120,7 +120,8 @@ fn tag_lists_from(
     ensures kept { OnOk result (binds.new ≡ binds.old) }
 {
     let mut lists = Vec::new(alloc);
-    for element in memory {
+    for at in 0..memory.len() {
+        let element = memory.at(at);
         if accepts(cond, binds, element) {
             let following = tag_lists(alloc, rest, memory, binds)?;
             unbind(cond, binds);

@@ -7,8 +7,8 @@ mod evaluation;
 mod finishing;
 mod instantiations;
 mod machine;
-mod memory;
 mod planning;
+mod refraction;
 
 pub use finishing::{Finished, finish, run_alone};
 pub use machine::Core;

@@ -1,36 +1,38 @@
-//! The core: a program, the elements that a run begins with, and how far the run has come.
+//! The core: a program, the base that a run begins from, and how far the run has come.
 
 ghost use Rattle.std.specs.Prelude.{◌≡◌, ◌<◌, ◌≤◌, ◌↔◌, true, IfOk, IsTrue, OnOk, OnErr};
-ghost use Rattle.rule_base.specs.Opening.{IsOpening};
-ghost use Rattle.rule_base.specs.Sound.{IsSound, sizes_of};
+ghost use Rattle.rule_base.specs.Sound.{IsSound};
 ghost use Rattle.rule_base.specs.Thin.{is_thin};
-ghost use Rattle.rule_base.specs.State.{count, opening as opening_state};
+ghost use Rattle.rule_base.specs.State.{count, start};
 ghost use Rattle.rule_base.specs.Step.{may_fire};
+ghost use Rattle.rule_base.specs.Base.{IsLawfulBase};
 ghost use Rattle.rule_base.specs.Ending.{IsBudget};
-ghost use Rattle.firing_core.specs.CoreState.{core_at};
+ghost use Rattle.firing_core.specs.CoreState.{IsRunOf};
 ghost use Rattle.firing_core.specs.Lawful.{IsLawful};
 ghost use Rattle.firing_core.specs.Firing.{IsNext, Fires};
 ghost use Rattle.firing_core.specs.Plan.{Plans};
 
 use crate::evaluation::evaluate;
 use crate::instantiations::first_unfired;
-use crate::memory::{change, elements_at};
-use crate::planning::{Plan, planned};
+use crate::planning::{Plan, elements_at, planned};
+use crate::refraction::forget_stopped;
 use ops_text::{OutOfMemory, Sequence, copied};
-use rule_base::{Choice, Element, Entry, Program};
+use rule_base::{Base, Choice, Elements, Entry, Program};
 use std::alloc::Global;
 use std::marker::Model;
 use std::sync::Arc;
 
 /// A run of the recognise-act machine that can go on. It keeps that its state is where its journal
-/// leads from its opening.
+/// leads from its base.
 #[derive(Drop)]
 pub struct Core {
     program: Arc<Program>,
-    opening: Sequence<Element>,
+    base: Base,
     budget: u64,
-    memory: Vec<Element>,
+    memory: Elements,
     next: u64,
+    /// What has fired; under `Renewed` also what has stopped matching since the last firing.
+    fired: Vec<Choice>,
     entries: Vec<Entry>,
     halted: bool,
 }
@@ -52,29 +54,30 @@ impl Model for Core {
 }
 
 impl Core {
-    /// A core at the beginning of a run: its memory is the opening, and nothing has fired.
+    /// A core at the beginning of a run from a base.
     pub fn new(
         alloc: Global,
         program: Arc<Program>,
-        opening: &[Element],
+        base: Base,
         budget: u64,
     ) -> Result<Core, OutOfMemory>
         requires sound { IsSound program.value }
         requires thin { is_thin program.value ≡ true }
-        requires begins { IsOpening (sizes_of program.value.classes) opening.now }
+        requires lawful { IsLawfulBase program.value base }
         requires budget { IsBudget budget }
-        ensures { IfOk result
-            (λ core. core ≡ core_at program.value opening.now budget (opening_state opening.now)) }
+        ensures run { IfOk result (IsRunOf program.value base budget) }
+        ensures begins { IfOk result (λ core. core.state ≡ start base) }
     {
-        let memory = copied(alloc, opening)?;
-        let opening = Sequence::from_vec(copied(alloc, opening)?);
-        let next = opening.len() as u64 + 1;
+        let memory = base.elements.copy(alloc)?;
+        let fired = copied(alloc, base.fired.as_slice())?;
+        let next = base.next;
         Ok(Core {
             program,
-            opening,
+            base,
             budget,
             memory,
             next,
+            fired,
             entries: Vec::new(alloc),
             halted: false,
         })
@@ -96,10 +99,10 @@ impl Core {
     }
 
     /// The elements of the working memory, in rising order of their tags.
-    pub fn memory(&self) -> &[Element]
+    pub fn memory(&self) -> &Elements
         ensures { result.now ≡ self.now.state.memory }
     {
-        self.memory.as_slice()
+        &self.memory
     }
 
     /// The journal's entries, in the order of the firings.
@@ -114,6 +117,19 @@ impl Core {
         ensures { result.now.value ≡ self.now.program }
     {
         &self.program
+    }
+
+    /// The memory and the journal of a run that goes on no more.
+    pub fn into_parts(self) -> (Elements, Sequence<Entry>)
+        ensures memory { result.0 ≡ self.state.memory }
+        ensures journal { result.1 ≡ self.state.entries }
+    {
+        let Core {
+            memory,
+            entries,
+            ..
+        } = self;
+        (memory, Sequence::from_vec(entries))
     }
 
     /// Whether a firing has halted the run.
@@ -136,12 +152,7 @@ impl Core {
     pub(crate) fn find_unfired(&self, alloc: Global) -> Result<Option<Choice>, OutOfMemory>
         ensures { IfOk result (IsNext self.now) }
     {
-        first_unfired(
-            alloc,
-            &self.program,
-            self.memory.as_slice(),
-            self.entries.as_slice(),
-        )
+        first_unfired(alloc, &self.program, &self.memory, self.fired.as_slice())
     }
 
     /// What the firing of a choice needs, made beforehand.
@@ -151,7 +162,7 @@ impl Core {
         ensures { IfOk result (Plans self.now choice) }
     {
         let rule = &self.program.rules.as_slice()[choice.rule as usize];
-        let elements = elements_at(alloc, self.memory.as_slice(), choice.tags.as_slice())?;
+        let elements = elements_at(alloc, &self.memory, choice.tags.as_slice())?;
         let delta = evaluate(alloc, rule, elements.as_slice())?;
         planned(alloc, self.next, choice, delta)
     }
@@ -163,14 +174,22 @@ impl Core {
         ensures ok { OnOk result (Fires self.old self.new choice) }
         ensures err { OnErr result (self.new ≡ self.old) }
     {
-        let Plan { entry, gone, born } = self.plan(alloc, choice)?;
-        self.memory.reserve(born.len())?;
+        let plan = self.plan(alloc, choice)?;
+        let fired = plan.entry.choice.copy(alloc)?;
         self.entries.reserve(1)?;
+        forget_stopped(
+            alloc,
+            self.base.refraction,
+            &self.program,
+            &self.memory,
+            &mut self.fired,
+        )?;
+        self.memory.change(alloc, plan.gone.as_slice(), &plan.born)?;
         // From here on nothing fails.
-        self.next += born.len() as u64;
-        self.halted = self.halted || entry.halts;
-        change(&mut self.memory, gone.as_slice(), born.into_vec());
-        self.entries.push_reserved(entry);
+        self.next += plan.born.len() as u64;
+        self.halted = self.halted || plan.entry.halts;
+        self.fired.push_reserved(fired);
+        self.entries.push_reserved(plan.entry);
         Ok(())
     }
 }

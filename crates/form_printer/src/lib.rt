@@ -5,4 +5,4 @@
 pub mod laws;
 mod print;
 
-pub use print::print_forms;
+pub use print::{print_forms, print_symbol};

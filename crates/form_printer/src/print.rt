@@ -11,7 +11,8 @@ mod conditions;
 mod expressions;
 mod values;
 
-use crate::print::values::{print_number, print_symbol};
+use crate::print::values::print_number;
+pub use crate::print::values::print_symbol;
 use ops_reader::{Form, Forms};
 use ops_text::{OutOfMemory, Symbols};
 use std::alloc::Global;

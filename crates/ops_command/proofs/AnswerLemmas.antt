@@ -10,7 +10,7 @@ use Rattle.ops_command.specs.ProgramText.{NamedProgram}
 use Rattle.ops_command.specs.MemoryText.{IsFaultyMemory}
 use Rattle.ops_command.specs.MemoryFile.{GivesOpening, IsRefusedMemory}
 use Rattle.ops_command.specs.ProgramFile.{GivesProgram}
-use Rattle.ops_command.specs.Answer.{IsSaidOfProgram, IsSaidOf}
+use Rattle.ops_command.specs.Answer.{ProgramLedTo, RequestLedTo}
 
 -- a later moment of a call: the same files are told, and no count of faults has fallen
 pub record IsLater (before later : Files) : Type 0 where
@@ -38,14 +38,14 @@ refused_earlier before later (Some name) named account moment (inl unread) = inl
 refused_earlier before later (Some name) named account moment (inr read) = inr (subst (λ (told : List ℕ → Option (List ℕ)). WereRead told name (λ bytes. IsFaultyMemory named bytes account)) moment.told read)
 
 -- what is said of a program from a later moment on is said of it from the earlier one on
-pub IsSaidOfProgram-earlier : (before later : Files) (asked : Asked) (named : NamedProgram) (account : Account) → IsLater before later → IsSaidOfProgram later asked named account → IsSaidOfProgram before asked named account
-IsSaidOfProgram-earlier before later asked named account moment (inl refused) = inl (refused_earlier before later asked.memory named account moment refused)
-IsSaidOfProgram-earlier before later asked named account moment (inr ran) = inr (record {
+pub ProgramLedTo-earlier : (before later : Files) (asked : Asked) (named : NamedProgram) (account : Account) → IsLater before later → ProgramLedTo later asked named account → ProgramLedTo before asked named account
+ProgramLedTo-earlier before later asked named account moment (inl refused) = inl (refused_earlier before later asked.memory named account moment refused)
+ProgramLedTo-earlier before later asked named account moment (inr ran) = inr (record {
   opening = ran.opening;
   opens = subst (λ (told : List ℕ → Option (List ℕ)). GivesOpening told asked.memory named ran.opening) moment.told ran.opens;
   ran = ran.ran;
 })
 
 -- and so of what was asked for
-pub IsSaidOf-program : (before later : Files) (asked : Asked) (named : NamedProgram) (account : Account) → GivesProgram before.told asked.program named → IsLater before later → IsSaidOfProgram later asked named account → IsSaidOf before asked account
-IsSaidOf-program before later asked named account gives moment said = inr (record { named = named; gives = gives; said = IsSaidOfProgram-earlier before later asked named account moment said })
+pub RequestLedTo-program : (before later : Files) (asked : Asked) (named : NamedProgram) (account : Account) → GivesProgram before.told asked.program named → IsLater before later → ProgramLedTo later asked named account → RequestLedTo before asked account
+RequestLedTo-program before later asked named account gives moment said = inr (record { named = named; gives = gives; said = ProgramLedTo-earlier before later asked named account moment said })

@@ -18,11 +18,13 @@ IsDecided-out_of_memory call = record {
   not_built = λ asked bytes forms number asks short has. (0, inr refl);
   memory_too_long = λ asked named bytes asks long. inr refl;
   memory_text = λ asked named bytes asks short. record { syntax = λ at why refused. inr refl; check = λ forms after violation text violated. inr refl };
-  runs = λ asked named opening asks. inr (inr refl);
+  runs = λ asked named opening asks. inr refl;
 }
 
 IsDecided-answer : (call : Call) (report : Report) (said : Status) → HasNoFault call → IsAnswer call report said → IsDecided call said
 IsDecided-answer call report status.Quiet calm written = IsDecided-said call _ calm written.is_said
+IsDecided-answer call report status.Halted calm written = IsDecided-said call _ calm written.is_said
+IsDecided-answer call report (status.Fault choice action why) calm written = IsDecided-said call _ calm written.is_said
 IsDecided-answer call report (status.Usage kind) calm written = IsDecided-said call _ calm written.is_said
 IsDecided-answer call report (status.Spent n) calm written = IsDecided-said call _ calm written.is_said
 IsDecided-answer call report (status.ReadFault kind) calm written = IsDecided-said call _ calm written.is_said

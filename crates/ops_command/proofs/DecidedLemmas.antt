@@ -28,9 +28,9 @@ use Rattle.ops_command.specs.FaultyText.{IsSyntaxError, IsCheckError}
 use Rattle.ops_command.specs.NotBuilt.{rule_forms, unbuilt_form, HasUnbuilt}
 use Rattle.ops_command.specs.ProgramText.{first_names, NamedProgram, Defines, IsFaultyProgram}
 use Rattle.ops_command.specs.MemoryText.{NamedOpening, Opens, IsFaultyMemory}
-use Rattle.ops_command.specs.MemoryFile.{GivesOpening, IsRefusedMemory}
-use Rattle.ops_command.specs.Ran.{Start, Ran}
-use Rattle.ops_command.specs.Answer.{IsSaidOfProgram, IsSaidOf, IsSaidOfWords}
+use Rattle.ops_command.specs.MemoryFile.{GivesOpening, IsRefusedMemory, OpensAlone}
+use Rattle.ops_command.specs.Ran.{IsOfEnding, Ran, Start, start_of}
+use Rattle.ops_command.specs.Answer.{ProgramLedTo, RequestLedTo, WordsLedTo}
 use Rattle.ops_command.specs.Decided.{HasNoFault, IsUnlessOutOfMemory, AsksToRun, AsksToRunProgram, AsksToLoad, DecidesText, IsDecided}
 use Rattle.ops_command.proofs.ChainLemmas.{same_ok, same_err}
 use Rattle.ops_command.proofs.ReaderLemmas.{one_reading, one_outcome, one_refusal}
@@ -43,14 +43,14 @@ pub under : (account : Account) (said : Status) → account ≡ refusal said →
 under account said is = ap (λ (a : Account). a.status) is
 
 -- what is said of the words under which nothing is asked for
-usage_said : (words : List (List ℕ)) (files : Files) (account : Account) (kind : UsageKind) → IsSaidOfWords words files account → asked_by words ≡ Err kind → IsUnlessOutOfMemory (status.Usage kind) account.status
+usage_said : (words : List (List ℕ)) (files : Files) (account : Account) (kind : UsageKind) → WordsLedTo words files account → asked_by words ≡ Err kind → IsUnlessOutOfMemory (status.Usage kind) account.status
 usage_said words files account kind (inl usage) faulty = inl (under account (status.Usage usage.kind) usage.said ∙ ap status.Usage (same_err (sym usage.faulty ∙ faulty)))
 usage_said words files account kind (inr asks) faulty = absurd (ok_err (sym asks.by_words ∙ faulty))
 
 -- what is said of what the words ask for
-asked_said : (words : List (List ℕ)) (files : Files) (account : Account) (asked : Asked) → IsSaidOfWords words files account → asked_by words ≡ Ok asked → IsSaidOf files asked account
+asked_said : (words : List (List ℕ)) (files : Files) (account : Account) (asked : Asked) → WordsLedTo words files account → asked_by words ≡ Ok asked → RequestLedTo files asked account
 asked_said words files account asked (inl usage) by_words = absurd (ok_err (sym by_words ∙ usage.faulty))
-asked_said words files account asked (inr asks) by_words = subst (λ (a : Asked). IsSaidOf files a account) (same_ok (sym asks.by_words ∙ by_words)) asks.holds
+asked_said words files account asked (inr asks) by_words = subst (λ (a : Asked). RequestLedTo files a account) (same_ok (sym asks.by_words ∙ by_words)) asks.holds
 
 -- faults of a text, told of one account
 record IsFaultOf {A : Type 0} (defined : List Form → Result A Violation) (names : Names) (bytes : List ℕ) (kind : FileKind) (account : Account) : Type 0 where
@@ -92,12 +92,12 @@ decides defined names bytes kind account fault = record {
 }
 
 -- what is said where a program file that is told was read
-data IsSaidOfBytes (files : Files) (asked : Asked) (bytes : List ℕ) (account : Account) : Type 0 where
-  IsLong : most_bytes < length bytes → account.status ≡ status.TooLong file.Program → IsSaidOfBytes files asked bytes account
-  IsFaulty : length bytes ≤ most_bytes → IsFaultyProgram bytes account → IsSaidOfBytes files asked bytes account
-  IsRight : length bytes ≤ most_bytes → (named : NamedProgram) → Defines bytes named → IsSaidOfProgram files asked named account → IsSaidOfBytes files asked bytes account
+data BytesLedTo (files : Files) (asked : Asked) (bytes : List ℕ) (account : Account) : Type 0 where
+  IsLong : most_bytes < length bytes → account.status ≡ status.TooLong file.Program → BytesLedTo files asked bytes account
+  IsFaulty : length bytes ≤ most_bytes → IsFaultyProgram bytes account → BytesLedTo files asked bytes account
+  IsRight : length bytes ≤ most_bytes → (named : NamedProgram) → Defines bytes named → ProgramLedTo files asked named account → BytesLedTo files asked bytes account
 
-bytes_said : (files : Files) (asked : Asked) (bytes : List ℕ) (account : Account) → ((name : List ℕ) → ¬ Rose (files.faults name) (files.faults_after name)) → files.told asked.program ≡ Some bytes → IsSaidOf files asked account → IsSaidOfBytes files asked bytes account
+bytes_said : (files : Files) (asked : Asked) (bytes : List ℕ) (account : Account) → ((name : List ℕ) → ¬ Rose (files.faults name) (files.faults_after name)) → files.told asked.program ≡ Some bytes → RequestLedTo files asked account → BytesLedTo files asked bytes account
 bytes_said files asked bytes account calm told (inl (inl (inl fault))) = absurd (calm asked.program fault.fault)
 bytes_said files asked bytes account calm told (inl (inl (inr long))) = IsLong (long.long bytes told) (under account (status.TooLong file.Program) long.said)
 bytes_said files asked bytes account calm told (inl (inr read)) =
@@ -107,12 +107,12 @@ bytes_said files asked bytes account calm told (inr given) =
     let same = given.gives.are.as_told bytes told in
     IsRight (subst (λ (b : List ℕ). length b ≤ most_bytes) same given.gives.are.short) given.named (subst (λ (b : List ℕ). Defines b given.named) same given.gives.holds) given.said
 
-long_decided : (files : Files) (asked : Asked) (bytes : List ℕ) (account : Account) → most_bytes < length bytes → IsSaidOfBytes files asked bytes account → account.status ≡ status.TooLong file.Program
+long_decided : (files : Files) (asked : Asked) (bytes : List ℕ) (account : Account) → most_bytes < length bytes → BytesLedTo files asked bytes account → account.status ≡ status.TooLong file.Program
 long_decided files asked bytes account long (IsLong more is) = is
 long_decided files asked bytes account long (IsFaulty short wrong) = absurd (omega (arith, long, short))
 long_decided files asked bytes account long (IsRight short named defines said) = absurd (omega (arith, long, short))
 
-text_decided : (files : Files) (asked : Asked) (bytes : List ℕ) (account : Account) → length bytes ≤ most_bytes → IsSaidOfBytes files asked bytes account → IsFaultOf checked first_names bytes file.Program account
+text_decided : (files : Files) (asked : Asked) (bytes : List ℕ) (account : Account) → length bytes ≤ most_bytes → BytesLedTo files asked bytes account → IsFaultOf checked first_names bytes file.Program account
 text_decided files asked bytes account short (IsLong more is) = absurd (omega (arith, more, short))
 text_decided files asked bytes account short (IsFaulty le (inl wrong)) = syntax_decides checked first_names bytes file.Program account wrong
 text_decided files asked bytes account short (IsFaulty le (inr (inl wrong))) = check_decides checked first_names bytes file.Program account wrong
@@ -128,7 +128,7 @@ all_pass p i (x ∷ xs) all = grind (arith, all_pass p (i + 1) xs)
 thin_unbuilt : (forms : List Form) (program : Program) → is_thin program ≡ true → unbuilt_form forms program ≡ None
 thin_unbuilt forms program thin = ap (option_and_then (slice_get (rule_forms 1 forms))) (position_from-zero (λ rule. not (is_thin_rule rule)) program.rules ∙ all_pass is_thin_rule 0 program.rules thin)
 
-unbuilt_decided : (files : Files) (asked : Asked) (bytes : List ℕ) (account : Account) (forms : List Form) (number : ℕ) → length bytes ≤ most_bytes → HasUnbuilt first_names bytes forms number → IsSaidOfBytes files asked bytes account → (at : ℕ) × (account.status ≡ status.NotBuilt at)
+unbuilt_decided : (files : Files) (asked : Asked) (bytes : List ℕ) (account : Account) (forms : List Form) (number : ℕ) → length bytes ≤ most_bytes → HasUnbuilt first_names bytes forms number → BytesLedTo files asked bytes account → (at : ℕ) × (account.status ≡ status.NotBuilt at)
 unbuilt_decided files asked bytes account forms number short has (IsLong more is) = absurd (omega (arith, more, short))
 unbuilt_decided files asked bytes account forms number short has (IsFaulty le (inl wrong)) = absurd (one_outcome first_names bytes forms has.after wrong.at wrong.why has.text wrong.refused)
 unbuilt_decided files asked bytes account forms number short has (IsFaulty le (inr (inl wrong))) =
@@ -148,7 +148,7 @@ one_program bytes named other defines others =
     let program : named.program ≡ other.program = same_ok (sym defines.declares ∙ ap checked same.0 ∙ others.declares) in
     ap (λ (p : Program). record { program = p; names = named.names }) program ∙ ap (λ (ns : Names). record { program = other.program; names = ns }) same.1
 
-program_decided : (files : Files) (asked : Asked) (bytes : List ℕ) (account : Account) (named : NamedProgram) → length bytes ≤ most_bytes → Defines bytes named → IsSaidOfBytes files asked bytes account → IsSaidOfProgram files asked named account
+program_decided : (files : Files) (asked : Asked) (bytes : List ℕ) (account : Account) (named : NamedProgram) → length bytes ≤ most_bytes → Defines bytes named → BytesLedTo files asked bytes account → ProgramLedTo files asked named account
 program_decided files asked bytes account named short defines (IsLong more is) = absurd (omega (arith, more, short))
 program_decided files asked bytes account named short defines (IsFaulty le (inl wrong)) = absurd (one_outcome first_names bytes defines.forms named.names wrong.at wrong.why defines.text wrong.refused)
 program_decided files asked bytes account named short defines (IsFaulty le (inr (inl wrong))) =
@@ -159,23 +159,36 @@ program_decided files asked bytes account named short defines (IsFaulty le (inr 
     let program : wrong.has.program ≡ named.program = same_ok (sym wrong.has.declares ∙ ap checked same.0 ∙ defines.declares) in
     let none = thin_unbuilt wrong.forms wrong.has.program (subst (λ (p : Program). is_thin p ≡ true) (sym program) defines.thin) in
     absurd (none-some wrong.number (sym none ∙ wrong.has.unbuilt))
-program_decided files asked bytes account named short defines (IsRight le other others said) = subst (λ (n : NamedProgram). IsSaidOfProgram files asked n account) (one_program bytes other named others defines) said
+program_decided files asked bytes account named short defines (IsRight le other others said) = subst (λ (n : NamedProgram). ProgramLedTo files asked n account) (one_program bytes other named others defines) said
 
 -- what is said where a memory file that is told was read
-data IsSaidOfMemory (named : NamedProgram) (budget : ℕ) (bytes : List ℕ) (account : Account) : Type 0 where
-  IsLongMemory : most_bytes < length bytes → account.status ≡ status.TooLong file.Memory → IsSaidOfMemory named budget bytes account
-  IsFaultyText : length bytes ≤ most_bytes → IsFaultyMemory named bytes account → IsSaidOfMemory named budget bytes account
-  IsOpened : length bytes ≤ most_bytes → (opening : NamedOpening) → Opens named bytes opening → (account.status ≡ status.Quiet) ⊎ (account.status ≡ status.Spent budget) → IsSaidOfMemory named budget bytes account
+data MemoryLedTo (named : NamedProgram) (budget : ℕ) (bytes : List ℕ) (account : Account) : Type 0 where
+  IsLongMemory : most_bytes < length bytes → account.status ≡ status.TooLong file.Memory → MemoryLedTo named budget bytes account
+  IsFaultyText : length bytes ≤ most_bytes → IsFaultyMemory named bytes account → MemoryLedTo named budget bytes account
+  IsOpened : length bytes ≤ most_bytes → (opening : NamedOpening) → Opens named bytes opening → Ran (start_of budget named opening) account → MemoryLedTo named budget bytes account
 
-ran_status : (start : Start) (account : Account) → Ran start account → (account.status ≡ status.Quiet) ⊎ (account.status ≡ status.Spent start.budget)
-ran_status start account (inl quiet) = inl quiet.under
-ran_status start account (inr spent) = inr spent.under
+-- the status of a run is that of its ending
+IsOfEnding-ran : (from : Start) (account : Account) → Ran from account → IsOfEnding from account.status
+IsOfEnding-ran from account ran = record { choices = account.found.choices; state = ran.state; end = ran.end; comes = ran.comes; under = ran.under }
 
-memory_said : (files : Files) (asked : Asked) (named : NamedProgram) (name bytes : List ℕ) (account : Account) → ((name : List ℕ) → ¬ Rose (files.faults name) (files.faults_after name)) → asked.memory ≡ Some name → files.told name ≡ Some bytes → IsSaidOfProgram files asked named account
-    → IsSaidOfMemory named asked.budget bytes account
+-- bytes give one opening memory
+one_memory : (a b : NamedOpening) → a.elements ≡ b.elements → a.names ≡ b.names → a ≡ b
+one_memory a b elements names = λ i. record { elements = elements i; names = names i }
+
+one_opening : (named : NamedProgram) (bytes : List ℕ) (a b : NamedOpening) → Opens named bytes a → Opens named bytes b → a ≡ b
+one_opening named bytes a b first second =
+    let same = one_reading named.names (tokens_of bytes) first.forms second.forms a.names b.names first.text second.text in
+    one_memory a b (same_ok (sym first.makes ∙ ap (opening_list named.program) same.0 ∙ second.makes)) same.1
+
+-- and so does a program without a memory file
+one_alone : (named : NamedProgram) (a b : NamedOpening) → OpensAlone named a → OpensAlone named b → a ≡ b
+one_alone named a b first second = one_memory a b (same_ok (sym first.makes ∙ second.makes)) (first.names ∙ sym second.names)
+
+memory_said : (files : Files) (asked : Asked) (named : NamedProgram) (name bytes : List ℕ) (account : Account) → ((name : List ℕ) → ¬ Rose (files.faults name) (files.faults_after name)) → asked.memory ≡ Some name → files.told name ≡ Some bytes → ProgramLedTo files asked named account
+    → MemoryLedTo named asked.budget bytes account
 memory_said files asked named name bytes account calm memory told (inl refused) = by_reason (subst (λ (m : Option (List ℕ)). IsRefusedMemory files m named account) memory refused)
   where
-    by_reason : IsRefusedMemory files (Some name) named account → IsSaidOfMemory named asked.budget bytes account
+    by_reason : IsRefusedMemory files (Some name) named account → MemoryLedTo named asked.budget bytes account
     by_reason (inl (inl fault)) = absurd (calm name fault.fault)
     by_reason (inl (inr long)) = IsLongMemory (long.long bytes told) (under account (status.TooLong file.Memory) long.said)
     by_reason (inr read) =
@@ -184,37 +197,41 @@ memory_said files asked named name bytes account calm memory told (inl refused) 
 memory_said files asked named name bytes account calm memory told (inr ran) =
     let read : WereRead files.told name (λ b. Opens named b ran.opening) = subst (λ (m : Option (List ℕ)). GivesOpening files.told m named ran.opening) memory ran.opens in
     let same = read.are.as_told bytes told in
-    IsOpened (subst (λ (b : List ℕ). length b ≤ most_bytes) same read.are.short) ran.opening (subst (λ (b : List ℕ). Opens named b ran.opening) same read.holds) (ran_status _ account ran.ran)
+    IsOpened (subst (λ (b : List ℕ). length b ≤ most_bytes) same read.are.short) ran.opening (subst (λ (b : List ℕ). Opens named b ran.opening) same read.holds) ran.ran
 
-long_memory_decided : (named : NamedProgram) (budget : ℕ) (bytes : List ℕ) (account : Account) → most_bytes < length bytes → IsSaidOfMemory named budget bytes account → account.status ≡ status.TooLong file.Memory
+long_memory_decided : (named : NamedProgram) (budget : ℕ) (bytes : List ℕ) (account : Account) → most_bytes < length bytes → MemoryLedTo named budget bytes account → account.status ≡ status.TooLong file.Memory
 long_memory_decided named budget bytes account long (IsLongMemory more is) = is
 long_memory_decided named budget bytes account long (IsFaultyText short wrong) = absurd (omega (arith, long, short))
 long_memory_decided named budget bytes account long (IsOpened short opening opens ran) = absurd (omega (arith, long, short))
 
-memory_decided : (named : NamedProgram) (budget : ℕ) (bytes : List ℕ) (account : Account) → length bytes ≤ most_bytes → IsSaidOfMemory named budget bytes account → IsFaultOf (opening_list named.program) named.names bytes file.Memory account
+memory_decided : (named : NamedProgram) (budget : ℕ) (bytes : List ℕ) (account : Account) → length bytes ≤ most_bytes → MemoryLedTo named budget bytes account → IsFaultOf (opening_list named.program) named.names bytes file.Memory account
 memory_decided named budget bytes account short (IsLongMemory more is) = absurd (omega (arith, more, short))
 memory_decided named budget bytes account short (IsFaultyText le (inl wrong)) = syntax_decides (opening_list named.program) named.names bytes file.Memory account wrong
 memory_decided named budget bytes account short (IsFaultyText le (inr wrong)) = check_decides (opening_list named.program) named.names bytes file.Memory account wrong
 memory_decided named budget bytes account short (IsOpened le opening opens ran) = right_decides (opening_list named.program) named.names bytes file.Memory account opens.forms opening.names opening.elements opens.text opens.makes
 
-run_decided : (named : NamedProgram) (budget : ℕ) (bytes : List ℕ) (account : Account) (opening : NamedOpening) → length bytes ≤ most_bytes → Opens named bytes opening → IsSaidOfMemory named budget bytes account → (account.status ≡ status.Quiet) ⊎ (account.status ≡ status.Spent budget)
+run_decided : (named : NamedProgram) (budget : ℕ) (bytes : List ℕ) (account : Account) (opening : NamedOpening) → length bytes ≤ most_bytes → Opens named bytes opening → MemoryLedTo named budget bytes account → IsOfEnding (start_of budget named opening) account.status
 run_decided named budget bytes account opening short opens (IsLongMemory more is) = absurd (omega (arith, more, short))
 run_decided named budget bytes account opening short opens (IsFaultyText le (inl wrong)) = absurd (one_outcome named.names bytes opens.forms opening.names wrong.at wrong.why opens.text wrong.refused)
 run_decided named budget bytes account opening short opens (IsFaultyText le (inr wrong)) =
     let same = one_reading named.names (tokens_of bytes) opens.forms wrong.forms opening.names wrong.after opens.text wrong.text in
     absurd (ok_err (sym opens.makes ∙ ap (opening_list named.program) same.0 ∙ wrong.violated))
-run_decided named budget bytes account opening short opens (IsOpened le other others ran) = ran
+run_decided named budget bytes account opening short opens (IsOpened le other others ran) =
+    IsOfEnding-ran (start_of budget named opening) account (subst (λ (o : NamedOpening). Ran (start_of budget named o) account) (one_opening named bytes other opening others opens) ran)
 
 -- with a memory file or without one
 from_decided : (files : Files) (asked : Asked) (named : NamedProgram) (opening : NamedOpening) (account : Account) → ((name : List ℕ) → ¬ Rose (files.faults name) (files.faults_after name)) → ((name : List ℕ) → asked.memory ≡ Some name → (bytes : List ℕ) × (files.told name ≡ Some bytes))
-    → GivesOpening files.told asked.memory named opening → IsSaidOfProgram files asked named account → (account.status ≡ status.Quiet) ⊎ (account.status ≡ status.Spent asked.budget)
+    → GivesOpening files.told asked.memory named opening → ProgramLedTo files asked named account → IsOfEnding (start_of asked.budget named opening) account.status
 from_decided files asked named opening account calm told opens said = by_memory asked.memory refl
   where
-    alone : asked.memory ≡ None → IsSaidOfProgram files asked named account → (account.status ≡ status.Quiet) ⊎ (account.status ≡ status.Spent asked.budget)
+    alone : asked.memory ≡ None → ProgramLedTo files asked named account → IsOfEnding (start_of asked.budget named opening) account.status
     alone none (inl refused) = absurd (subst (λ (m : Option (List ℕ)). IsRefusedMemory files m named account) none refused)
-    alone none (inr ran) = ran_status _ account ran.ran
+    alone none (inr ran) =
+        let first : OpensAlone named ran.opening = subst (λ (m : Option (List ℕ)). GivesOpening files.told m named ran.opening) none ran.opens in
+        let second : OpensAlone named opening = subst (λ (m : Option (List ℕ)). GivesOpening files.told m named opening) none opens in
+        IsOfEnding-ran (start_of asked.budget named opening) account (subst (λ (o : NamedOpening). Ran (start_of asked.budget named o) account) (one_alone named ran.opening opening first second) ran.ran)
 
-    by_memory : (memory : Option (List ℕ)) → asked.memory ≡ memory → (account.status ≡ status.Quiet) ⊎ (account.status ≡ status.Spent asked.budget)
+    by_memory : (memory : Option (List ℕ)) → asked.memory ≡ memory → IsOfEnding (start_of asked.budget named opening) account.status
     by_memory None is = alone is said
     by_memory (Some name) is =
         let bytes = told name is in
@@ -223,12 +240,8 @@ from_decided files asked named opening account calm told opens said = by_memory 
         run_decided named asked.budget bytes.0 account opening (subst (λ (b : List ℕ). length b ≤ most_bytes) same read.are.short) (subst (λ (b : List ℕ). Opens named b opening) same read.holds)
         (memory_said files asked named name bytes.0 account calm is bytes.1 said)
 
-run_unless : (account : Account) (budget : ℕ) → (account.status ≡ status.Quiet) ⊎ (account.status ≡ status.Spent budget) → (account.status ≡ status.Quiet) ⊎ IsUnlessOutOfMemory (status.Spent budget) account.status
-run_unless account budget (inl quiet) = inl quiet
-run_unless account budget (inr spent) = inr (inl spent)
-
 -- the status of what is said is decided
-pub IsDecided-said : (call : Call) (account : Account) → HasNoFault call → IsSaidOfWords call.words call.files account → IsDecided call account.status
+pub IsDecided-said : (call : Call) (account : Account) → HasNoFault call → WordsLedTo call.words call.files account → IsDecided call account.status
 IsDecided-said call account calm said =
     let read = λ (asked : Asked) (bytes : List ℕ) (asks : AsksToRun call asked bytes). bytes_said call.files asked bytes account calm.reading asks.told (asked_said call.words call.files account asked said asks.by_words) in
     let of_program = λ (asked : Asked) (named : NamedProgram) (asks : AsksToRunProgram call asked named). program_decided call.files asked asks.bytes account named asks.short asks.defines (read asked asks.bytes asks.asks) in
@@ -239,5 +252,5 @@ IsDecided-said call account calm said =
       not_built = λ asked bytes forms number asks short has. let at = unbuilt_decided call.files asked bytes account forms number short has (read asked bytes asks) in (at.0, inl at.1);
       memory_too_long = λ asked named bytes asks long. inl (long_memory_decided named asked.budget bytes account long (loaded asked named bytes asks));
       memory_text = λ asked named bytes asks short. decides (opening_list named.program) named.names bytes file.Memory account (memory_decided named asked.budget bytes account short (loaded asked named bytes asks));
-      runs = λ asked named opening asks. run_unless account asked.budget (from_decided call.files asked named opening account calm.reading asks.told asks.opens (of_program asked named asks.asks));
+      runs = λ asked named opening asks. inl (from_decided call.files asked named opening account calm.reading asks.told asks.opens (of_program asked named asks.asks));
     }

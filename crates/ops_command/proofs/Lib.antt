@@ -3,7 +3,6 @@ pub mod ResultLemmas
 pub mod WordLemmas
 pub mod LineLemmas
 pub mod UnbuiltLemmas
-pub mod ThinLemmas
 pub mod FaultLemmas
 pub mod ReaderLemmas
 pub mod EmptyTextLemmas

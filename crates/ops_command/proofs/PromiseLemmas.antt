@@ -14,14 +14,19 @@ use Rattle.ops_command.specs.ProgramText.{NamedProgram, IsFaultyProgram}
 use Rattle.ops_command.specs.ProgramFile.{IsRefusedProgram}
 use Rattle.ops_command.specs.MemoryText.{IsFaultyMemory}
 use Rattle.ops_command.specs.MemoryFile.{IsRefusedMemory}
+use Rattle.rule_base.specs.declared.entry.Ending.{Ending}
+use Rattle.rule_base.specs.declared.entry.Ending.TheVariants as ending
+use Rattle.ops_command.specs.EndingWords.{status_of}
 use Rattle.ops_command.specs.Ran.{Start, Ran}
-use Rattle.ops_command.specs.Answer.{IsSaidOfProgram, IsSaidOf, IsSaidOfWords, IsSaid, IsAnswer}
+use Rattle.ops_command.specs.Answer.{ProgramLedTo, RequestLedTo, WordsLedTo, IsSaid, IsAnswer}
 use Rattle.ops_command.specs.Promise.{KeepsPromise}
 use Rattle.ops_command.proofs.DecidedLemmas.{under}
 
 -- a status that can be said: not that of a fault of writing, nor of want of memory
 abbrev can_be_said : Status → Bool
 can_be_said status.Quiet = true
+can_be_said status.Halted = true
+can_be_said (status.Fault choice action why) = true
 can_be_said (status.Usage kind) = true
 can_be_said (status.Spent n) = true
 can_be_said (status.ReadFault kind) = true
@@ -57,25 +62,32 @@ memory_refused_said files (Some name) named account (inr read) = by_reason read.
     by_reason bytes (inl wrong) = refusal_said account (status.Syntax file.Memory wrong.at wrong.why) refl wrong.said
     by_reason bytes (inr wrong) = refusal_said account (status.Check file.Memory wrong.violation.form wrong.violation.kind) refl wrong.said
 
-run_said : (start : Start) (account : Account) → Ran start account → can_be_said account.status ≡ true
-run_said start account (inl quiet) = ap can_be_said quiet.under
-run_said start account (inr spent) = ap can_be_said spent.under
+ending_said : (end : Ending) → can_be_said (status_of end) ≡ true
+ending_said ending.Quiet = refl
+ending_said ending.Halted = refl
+ending_said (ending.Spent n) = refl
+ending_said (ending.Fault choice action why) = refl
 
-program_said : (files : Files) (asked : Asked) (named : NamedProgram) (account : Account) → IsSaidOfProgram files asked named account → can_be_said account.status ≡ true
+run_said : (start : Start) (account : Account) → Ran start account → can_be_said account.status ≡ true
+run_said start account ran = ap can_be_said ran.under ∙ ending_said ran.end
+
+program_said : (files : Files) (asked : Asked) (named : NamedProgram) (account : Account) → ProgramLedTo files asked named account → can_be_said account.status ≡ true
 program_said files asked named account (inl refused) = memory_refused_said files asked.memory named account refused
 program_said files asked named account (inr ran) = run_said _ account ran.ran
 
-asked_can_be_said : (files : Files) (asked : Asked) (account : Account) → IsSaidOf files asked account → can_be_said account.status ≡ true
+asked_can_be_said : (files : Files) (asked : Asked) (account : Account) → RequestLedTo files asked account → can_be_said account.status ≡ true
 asked_can_be_said files asked account (inl refused) = program_refused_said files asked.program account refused
 asked_can_be_said files asked account (inr given) = program_said files asked given.named account given.said
 
-words_can_be_said : (words : List (List ℕ)) (files : Files) (account : Account) → IsSaidOfWords words files account → can_be_said account.status ≡ true
+words_can_be_said : (words : List (List ℕ)) (files : Files) (account : Account) → WordsLedTo words files account → can_be_said account.status ≡ true
 words_can_be_said words files account (inl usage) = refusal_said account (status.Usage usage.kind) refl usage.said
 words_can_be_said words files account (inr asks) = asked_can_be_said files asks.asked account asks.holds
 
 IsAnswer-written : (call : Call) (report : Report) (text : List ℕ) (said : Status) → IsSaid call report text said → Extends call.output.held call.output.held_after text
     → HidesNoReadFault call.files.faults call.files.faults_after said → call.output.faults_after ≡ call.output.faults → IsAnswer call report said
 IsAnswer-written call report text status.Quiet says written read no_fault = record { text = text; is_said = says; written = written; read = read; no_fault = no_fault }
+IsAnswer-written call report text status.Halted says written read no_fault = record { text = text; is_said = says; written = written; read = read; no_fault = no_fault }
+IsAnswer-written call report text (status.Fault choice action why) says written read no_fault = record { text = text; is_said = says; written = written; read = read; no_fault = no_fault }
 IsAnswer-written call report text (status.Usage kind) says written read no_fault = record { text = text; is_said = says; written = written; read = read; no_fault = no_fault }
 IsAnswer-written call report text (status.Spent n) says written read no_fault = record { text = text; is_said = says; written = written; read = read; no_fault = no_fault }
 IsAnswer-written call report text (status.ReadFault kind) says written read no_fault = record { text = text; is_said = says; written = written; read = read; no_fault = no_fault }

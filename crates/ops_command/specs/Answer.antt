@@ -15,7 +15,7 @@ use Rattle.ops_command.specs.ProgramText.{NamedProgram}
 use Rattle.ops_command.specs.ProgramFile.{GivesProgram, IsRefusedProgram}
 use Rattle.ops_command.specs.MemoryText.{NamedOpening}
 use Rattle.ops_command.specs.MemoryFile.{GivesOpening, IsRefusedMemory}
-use Rattle.ops_command.specs.Ran.{Ran}
+use Rattle.ops_command.specs.Ran.{Ran, start_of}
 
 -- the words are faulty
 pub record IsUsage (words : List (List ℕ)) (account : Account) : Type 0 where
@@ -27,29 +27,29 @@ pub record IsUsage (words : List (List ℕ)) (account : Account) : Type 0 where
 pub record RanFromOpening (files : Files) (asked : Asked) (named : NamedProgram) (account : Account) : Type 0 where
   pub opening : NamedOpening
   pub opens : GivesOpening files.told asked.memory named opening
-  pub ran : Ran (record { program = named.program; elements = opening.elements; budget = asked.budget; names = opening.names }) account
+  pub ran : Ran (start_of asked.budget named opening) account
 
--- what is to be said of this program: its memory file is refused, or it ran
-abbrev pub IsSaidOfProgram : Files → Asked → NamedProgram → Account → Type 0
-IsSaidOfProgram files asked named account = IsRefusedMemory files asked.memory named account ⊎ RanFromOpening files asked named account
+-- what a program led to: its memory file is refused, or it ran
+abbrev pub ProgramLedTo : Files → Asked → NamedProgram → Account → Type 0
+ProgramLedTo files asked named account = IsRefusedMemory files asked.memory named account ⊎ RanFromOpening files asked named account
 
--- there is a program, and this is to be said of it
-pub record IsSaidOfGiven (files : Files) (asked : Asked) (account : Account) : Type 0 where
+-- the program file gave a program, and this is what that led to
+pub record GaveProgram (files : Files) (asked : Asked) (account : Account) : Type 0 where
   pub named : NamedProgram
   pub gives : GivesProgram files.told asked.program named
-  pub said : IsSaidOfProgram files asked named account
+  pub said : ProgramLedTo files asked named account
 
--- what is to be said where this is asked for: the program file is refused, or what its program comes to
-abbrev pub IsSaidOf : Files → Asked → Account → Type 0
-IsSaidOf files asked account = IsRefusedProgram files asked.program account ⊎ IsSaidOfGiven files asked account
+-- what a request led to: the program file is refused, or it gave a program
+abbrev pub RequestLedTo : Files → Asked → Account → Type 0
+RequestLedTo files asked account = IsRefusedProgram files asked.program account ⊎ GaveProgram files asked account
 
--- what is to be said of words: that they are faulty, or what they ask for comes to
-abbrev pub IsSaidOfWords : List (List ℕ) → Files → Account → Type 0
-IsSaidOfWords words files account = IsUsage words account ⊎ AsksFor words (λ asked. IsSaidOf files asked account)
+-- what words led to: they are faulty, or they ask for something
+abbrev pub WordsLedTo : List (List ℕ) → Files → Account → Type 0
+WordsLedTo words files account = IsUsage words account ⊎ AsksFor words (λ asked. RequestLedTo files asked account)
 
 -- what the report says is to be said of the call under this status, with this text
 abbrev pub IsSaid : Call → Report → List ℕ → Status → Type 0
-IsSaid call report text said = IsSaidOfWords call.words call.files (record { status = said; found = findings_of report; text = text })
+IsSaid call report text said = WordsLedTo call.words call.files (record { status = said; found = findings_of report; text = text })
 
 -- all was said: the output grew by just the text, and no fault is hidden
 pub record IsWritten (call : Call) (report : Report) (said : Status) : Type 0 where

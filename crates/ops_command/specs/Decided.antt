@@ -23,6 +23,7 @@ use Rattle.ops_command.specs.NotBuilt.{HasUnbuilt}
 use Rattle.ops_command.specs.ProgramText.{first_names, NamedProgram, Defines}
 use Rattle.ops_command.specs.MemoryText.{NamedOpening}
 use Rattle.ops_command.specs.MemoryFile.{GivesOpening}
+use Rattle.ops_command.specs.Ran.{IsOfEnding, start_of}
 
 -- no count of faults rose in the call
 pub record HasNoFault (call : Call) : Type 0 where
@@ -81,4 +82,4 @@ pub record IsDecided (call : Call) (said : Status) : Type 0 where
       → length bytes ≤ most_bytes → DecidesText (opening_list named.program) named.names bytes file.Memory said
   -- a program with its opening memory runs to an ending
   pub runs : (asked : Asked) (named : NamedProgram) (opening : NamedOpening) → AsksToRunFrom call asked named opening
-      → (said ≡ status.Quiet) ⊎ IsUnlessOutOfMemory (status.Spent asked.budget) said
+      → IsOfEnding (start_of asked.budget named opening) said ⊎ (said ≡ status.OutOfMemory)

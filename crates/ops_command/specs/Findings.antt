@@ -3,7 +3,7 @@ use Rattle.std.specs.Prelude.{ℕ, List, []}
 use Rattle.rule_base.specs.declared.instantiation.Choice.{Choice}
 use Rattle.rule_base.specs.Memory.{Memory}
 use Rattle.rule_base.specs.State.{State}
-use Rattle.firing_core.specs.CoreState.{choices_of}
+use Rattle.rule_base.specs.State.{choices_of}
 use Rattle.ops_command.specs.declared.status.Report.{Report}
 
 -- the choices that fired, in order, the working memory in the end, and the next time tag

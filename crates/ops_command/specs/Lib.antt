@@ -18,6 +18,7 @@ pub mod Ran
 -- what is printed and told
 pub mod Account
 pub mod Refusals
+pub mod EndingWords
 pub mod RunReport
 pub mod Page
 pub mod Findings

@@ -3,6 +3,7 @@
 #![tactic(auto)]
 
 mod command;
+mod ending_words;
 mod file_bytes;
 pub mod laws;
 mod memory_file;

@@ -13,8 +13,8 @@ ghost use Rattle.ops_command.specs.MemoryFile.{GivesOpening, IsRefusedMemory};
 use crate::file_bytes::read_file;
 use crate::status::{FileKind, Status};
 use crate::text::{check_status, read_text};
-use ops_text::{Sequence, Shelf, Symbols};
-use rule_base::{Element, Program};
+use ops_text::{Shelf, Symbols};
+use rule_base::{Elements, Program};
 use rule_checker::load;
 use std::alloc::Global;
 
@@ -25,7 +25,7 @@ pub fn read_opening<F: Shelf>(
     name: Option<&str>,
     program: &Program,
     symbols: &mut Symbols,
-) -> Result<Sequence<Element>, Status>
+) -> Result<Elements, Status>
     requires sound { IsSound program.now }
     requires few_makes { length program.now.makes < 2 ^ 32 }
     requires few_names { length symbols.old ≤ 1 + most_bytes }
@@ -38,6 +38,10 @@ pub fn read_opening<F: Shelf>(
     ensures no_fault { OnOk result (F.faults shelf.new ≡ F.faults shelf.old) }
     ensures counted { IfErr result (HidesNoReadFault (F.faults shelf.old) (F.faults shelf.new)) }
     ensures opening { IfOk result (IsOpening (sizes_of program.now.classes)) }
+
+    // Whatever the answer, the files and what is told of them stay.
+    ensures same { F.told shelf.new ≡ F.told shelf.old }
+    ensures later { (other : List ℕ) → F.faults shelf.old other ≤ F.faults shelf.new other }
 {
     match name {
         Some(name) => {
@@ -54,7 +58,7 @@ fn opening_of(
     bytes: &[u8],
     program: &Program,
     symbols: &mut Symbols,
-) -> Result<Sequence<Element>, Status>
+) -> Result<Elements, Status>
     requires sound { IsSound program.now }
     requires few_makes { length program.now.makes < 2 ^ 32 }
     requires few_names { length symbols.old ≤ 1 + most_bytes }

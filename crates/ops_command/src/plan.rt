@@ -10,7 +10,7 @@ ghost use Rattle.rule_base.specs.Ending.{IsBudget};
 ghost use Rattle.ops_command.specs.Asking.{asked_of};
 ghost use Rattle.ops_command.specs.Account.{refusal, account_of, IsRefusal};
 ghost use Rattle.ops_command.specs.FileBytes.{most_bytes, HidesNoReadFault};
-ghost use Rattle.ops_command.specs.Answer.{IsSaidOfWords, IsSaidOf, IsSaidOfProgram};
+ghost use Rattle.ops_command.specs.Answer.{WordsLedTo, RequestLedTo, ProgramLedTo};
 
 use crate::memory_file::read_opening;
 use crate::program_file::read_program;
@@ -35,12 +35,15 @@ pub fn plan_words<F: Shelf>(
     words: &[String],
     shelf: &mut F,
 ) -> Result<Plan, OutOfMemory>
-    ensures said { IfOk result (λ plan. IsSaidOfWords
+    ensures said { IfOk result (λ plan. WordsLedTo
         (map string_bytes words.now)
         (files_between F.told F.faults shelf.old shelf.new)
         (account_of plan)) }
     ensures counted { IfOk result (λ plan.
         HidesNoReadFault (F.faults shelf.old) (F.faults shelf.new) plan.report.status) }
+    // Whatever the answer, the files and what is told of them stay.
+    ensures same { F.told shelf.new ≡ F.told shelf.old }
+    ensures later { (other : List ℕ) → F.faults shelf.old other ≤ F.faults shelf.new other }
 {
     match run_words(alloc, words, shelf) {
         Ok(plan) => Ok(plan),
@@ -53,7 +56,7 @@ pub fn plan_words<F: Shelf>(
 fn refusal(alloc: Global, status: Status) -> Result<Plan, OutOfMemory>
     ensures { IfOk result (λ plan. account_of plan ≡ refusal status) }
 {
-    let line = refusal_line(alloc, status)?;
+    let line = refusal_line(alloc, &status)?;
     Ok(Plan {
         report: Report::of_no_run(alloc, status),
         text: line.into_bytes(),
@@ -62,15 +65,18 @@ fn refusal(alloc: Global, status: Status) -> Result<Plan, OutOfMemory>
 
 /// The run that the words ask for, or the status under which nothing runs.
 fn run_words<F: Shelf>(alloc: Global, words: &[String], shelf: &mut F) -> Result<Plan, Status>
-    ensures ran { IfOk result (λ plan. IsSaidOfWords
+    ensures ran { IfOk result (λ plan. WordsLedTo
         (map string_bytes words.now)
         (files_between F.told F.faults shelf.old shelf.new)
         (account_of plan)) }
-    ensures refused { IfErr result (IsRefusal (IsSaidOfWords
+    ensures refused { IfErr result (IsRefusal (WordsLedTo
         (map string_bytes words.now)
         (files_between F.told F.faults shelf.old shelf.new))) }
     ensures no_fault { OnOk result (F.faults shelf.new ≡ F.faults shelf.old) }
     ensures counted { IfErr result (HidesNoReadFault (F.faults shelf.old) (F.faults shelf.new)) }
+    // Whatever the answer, the files and what is told of them stay.
+    ensures same { F.told shelf.new ≡ F.told shelf.old }
+    ensures later { (other : List ℕ) → F.faults shelf.old other ≤ F.faults shelf.new other }
 {
     match requested(words) {
         Ok(request) => run_request(alloc, shelf, &request),
@@ -85,14 +91,17 @@ fn run_request<F: Shelf>(
     request: &Request<'_>,
 ) -> Result<Plan, Status>
     requires { IsBudget request.now.budget }
-    ensures ran { IfOk result (λ plan. IsSaidOf
+    ensures ran { IfOk result (λ plan. RequestLedTo
         (files_between F.told F.faults shelf.old shelf.new)
         (asked_of request.now) (account_of plan)) }
-    ensures refused { IfErr result (IsRefusal (IsSaidOf
+    ensures refused { IfErr result (IsRefusal (RequestLedTo
         (files_between F.told F.faults shelf.old shelf.new)
         (asked_of request.now))) }
     ensures no_fault { OnOk result (F.faults shelf.new ≡ F.faults shelf.old) }
     ensures counted { IfErr result (HidesNoReadFault (F.faults shelf.old) (F.faults shelf.new)) }
+    // Whatever the answer, the files and what is told of them stay.
+    ensures same { F.told shelf.new ≡ F.told shelf.old }
+    ensures later { (other : List ℕ) → F.faults shelf.old other ≤ F.faults shelf.new other }
 {
     let (program, mut symbols) = read_program(alloc, shelf, request.program)?;
     run_program(alloc, shelf, request, program, &mut symbols)
@@ -111,16 +120,19 @@ fn run_program<F: Shelf>(
     requires thin { is_thin program ≡ true }
     requires few_makes { length program.makes < 2 ^ 32 }
     requires few_names { length symbols.old ≤ 1 + most_bytes }
-    ensures ran { IfOk result (λ plan. IsSaidOfProgram
+    ensures ran { IfOk result (λ plan. ProgramLedTo
         (files_between F.told F.faults shelf.old shelf.new)
         (asked_of request.now) (record { program = program; names = symbols.old }) (account_of plan)) }
-    ensures refused { IfErr result (IsRefusal (IsSaidOfProgram
+    ensures refused { IfErr result (IsRefusal (ProgramLedTo
         (files_between F.told F.faults shelf.old shelf.new)
         (asked_of request.now) (record { program = program; names = symbols.old }))) }
     ensures no_fault { OnOk result (F.faults shelf.new ≡ F.faults shelf.old) }
     ensures counted { IfErr result (HidesNoReadFault (F.faults shelf.old) (F.faults shelf.new)) }
+    // Whatever the answer, the files and what is told of them stay.
+    ensures same { F.told shelf.new ≡ F.told shelf.old }
+    ensures later { (other : List ℕ) → F.faults shelf.old other ≤ F.faults shelf.new other }
 {
     let opening = read_opening(alloc, shelf, request.memory, &program, symbols)?;
-    let plan = plan_run(alloc, program, opening.as_slice(), request.budget, symbols)?;
+    let plan = plan_run(alloc, program, opening, request.budget, symbols)?;
     Ok(plan)
 }

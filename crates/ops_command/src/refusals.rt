@@ -11,19 +11,22 @@ use rule_checker::CheckKind;
 use std::alloc::Global;
 
 /// The line of a status. The statuses that are no refusals have none.
-pub fn refusal_line(alloc: Global, status: Status) -> Result<String, OutOfMemory>
-    ensures { IfOk result (λ line. string_bytes line ≡ refusal_line status) }
+pub fn refusal_line(alloc: Global, status: &Status) -> Result<String, OutOfMemory>
+    ensures { IfOk result (λ line. string_bytes line ≡ refusal_line status.now) }
 {
     match status {
         Status::Usage { kind } => format!(in alloc; "ops: usage: {kind}\n"),
         Status::ReadFault { file } => format!(in alloc; "ops: cannot read {file}\n"),
         Status::TooLong { file } => format!(in alloc; "ops: {file} is too long\n"),
-        Status::Syntax { file, at, kind } => syntax_line(alloc, file, at, syntax_words(kind)),
-        Status::Check { file, form, kind } => check_line(alloc, file, form, check_words(kind)),
+        Status::Syntax { file, at, kind } => syntax_line(alloc, *file, *at, syntax_words(*kind)),
+        Status::Check { file, form, kind } => check_line(alloc, *file, *form, check_words(*kind)),
         Status::NotBuilt { at } => format!(in alloc; "ops: not built at byte {at}\n"),
-        Status::Quiet | Status::Spent { .. } | Status::WriteFault | Status::OutOfMemory => {
-            Ok(String::new(alloc))
-        }
+        Status::Quiet
+        | Status::Halted
+        | Status::Spent { .. }
+        | Status::Fault { .. }
+        | Status::WriteFault
+        | Status::OutOfMemory => Ok(String::new(alloc)),
     }
 }
 

@@ -3,10 +3,12 @@
 ghost use Rattle.std.specs.Prelude.{◌≡◌, ◌++◌, decimal, OnOk, IfOk};
 ghost use Rattle.ops_command.specs.RunReport.{ends_line, whole_lines, summary_line, run_report};
 
+use crate::ending_words::ending_words;
 use crate::page::lay_out;
 use firing_core::Core;
 use itoa::Buffer;
 use ops_text::{OutOfMemory, Symbols};
+use rule_base::Ending;
 use std::alloc::Global;
 
 /// Appends a number in decimal.
@@ -38,15 +40,15 @@ fn ends_line(text: &[u8]) -> bool
 
 fn summary_line(
     alloc: Global,
-    word: &str,
+    words: &[u8],
     firings: u64,
     elements: u64,
     next: u64,
 ) -> Result<Vec<u8>, OutOfMemory>
-    ensures { IfOk result (λ line. line.items ≡ summary_line word.now firings elements next) }
+    ensures { IfOk result (λ line. line.items ≡ summary_line words.now firings elements next) }
 {
     let mut line = Vec::from_slice(alloc, b"; ")?;
-    line.extend_from_slice(word.as_bytes())?;
+    line.extend_from_slice(words)?;
     line.extend_from_slice(b", firings ")?;
     put_decimal(firings, &mut line)?;
     line.extend_from_slice(b", elements ")?;
@@ -57,20 +59,22 @@ fn summary_line(
     Ok(line)
 }
 
-/// The report of the run that a core has come to. The word says how it ended.
+/// The report of the run that a core has come to, and that ended so.
 pub fn run_report(
     alloc: Global,
     symbols: &Symbols,
-    word: &str,
+    ending: &Ending,
     core: &Core,
 ) -> Result<Vec<u8>, OutOfMemory>
-    ensures { IfOk result (λ text. text.items ≡ run_report symbols.now word.now core.now.state) }
+    ensures { IfOk result
+        (λ text. text.items ≡ run_report core.now.program symbols.now ending.now core.now.state) }
 {
     let firings = core.entries().len() as u64;
     let elements = core.memory().len() as u64;
+    let words = ending_words(alloc, core.program(), symbols, ending)?;
     let mut text = lay_out(alloc, core.entries(), symbols)?;
     end_line(&mut text)?;
-    let line = summary_line(alloc, word, firings, elements, core.next())?;
+    let line = summary_line(alloc, words.as_slice(), firings, elements, core.next())?;
     text.extend_from_slice(&line)?;
     Ok(text)
 }

@@ -2,12 +2,13 @@
 
 ghost use Rattle.std.specs.Prelude.{◌≡◌, Some};
 ghost use Rattle.ops_command.specs.declared.status.Status.TheVariants.{OutOfMemory as no_memory};
+ghost use Rattle.ops_command.specs.EndingWords.{status_of};
 ghost use Rattle.ops_command.specs.Findings.{findings_of, no_findings};
 ghost use Rattle.ops_command.specs.Refusals.{usage_word, file_word};
 
 use ops_reader::SyntaxKind;
 use ops_text::{OutOfMemory, Sequence};
-use rule_base::{Choice, Element};
+use rule_base::{Choice, Elements, Ending, FaultCause};
 use rule_checker::CheckKind;
 use std::alloc::Global;
 use std::fmt;
@@ -50,17 +51,26 @@ impl fmt::Display for FileKind {
     }
 }
 
-/// How a call ended. `n` counts firings, `at` bytes from 0, and `form` the forms of a file from 1.
-#[derive(Clone, Copy, Debug, PartialEq, Eq)]
+/// How a call ended. `n` counts firings, `action` the actions of a rule from 1, `at` bytes from 0, and
+/// `form` the forms of a file from 1.
+#[derive(Debug, Drop)]
 pub enum Status {
     /// Nothing was left to fire.
     Quiet,
+    /// A firing halted.
+    Halted,
     Usage {
         kind: UsageKind,
     },
     /// The firings were used up, and something was left.
     Spent {
         n: u64,
+    },
+    /// The right-hand side of this instantiation failed first at this action.
+    Fault {
+        choice: Choice,
+        action: u32,
+        cause: FaultCause,
     },
     ReadFault {
         file: FileKind,
@@ -88,6 +98,28 @@ pub enum Status {
     OutOfMemory,
 }
 
+impl Status {
+    /// The status of a run that ended so.
+    pub(crate) fn of_ending(ending: Ending) -> Status
+        ensures { result ≡ status_of ending }
+    {
+        match ending {
+            Ending::Quiet => Status::Quiet,
+            Ending::Halted => Status::Halted,
+            Ending::Spent { n } => Status::Spent { n },
+            Ending::Fault {
+                choice,
+                action,
+                cause,
+            } => Status::Fault {
+                choice,
+                action,
+                cause,
+            },
+        }
+    }
+}
+
 impl From<OutOfMemory> for Status {
     ghost from_gives = { λ _ status. status ≡ no_memory };
 
@@ -102,7 +134,7 @@ impl From<OutOfMemory> for Status {
 pub struct Report {
     pub status: Status,
     pub choices: Sequence<Choice>,
-    pub memory: Sequence<Element>,
+    pub memory: Elements,
     pub next: u64,
 }
 
@@ -115,7 +147,7 @@ impl Report {
         Report {
             status,
             choices: Sequence::new(alloc),
-            memory: Sequence::new(alloc),
+            memory: Elements::new(alloc),
             next: 1,
         }
     }

@@ -15,6 +15,7 @@ pub mod ElementMatchLemmas
 pub mod ThinLemmas
 pub mod MachineLemmas
 pub mod RunLemmas
+pub mod StillFiredLemmas
 pub mod TakenLemmas
 pub mod BaseLemmas
 -- expressions

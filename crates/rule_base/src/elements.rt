@@ -1,7 +1,7 @@
 //! Elements in flat arrays: however many there are, they lie in two blocks, so that taking one in needs
 //! no block of its own.
 
-ghost use Rattle.std.specs.Prelude.{◌≡◌, ◌+◌, ◌≤◌, ◌<◌, ◌↔◌, [], ◌∷◌, ◌++◌, ◌==◌, IfOk, IsTrue, OnOk, OnErr, Some, length, map, option_map, slice_get, vec_capacity, vec_len};
+ghost use Rattle.std.specs.Prelude.{◌≡◌, ◌+◌, ◌≤◌, ◌<◌, ◌^◌, ◌↔◌, [], ◌∷◌, ◌++◌, ◌==◌, IfOk, IsTrue, OnOk, OnErr, Some, length, map, option_map, slice_get, vec_capacity, vec_len};
 ghost use Rattle.std.specs.List.{list_any};
 ghost use Rattle.rule_base.specs.Memory.{element_at};
 ghost use Rattle.rule_base.specs.Step.{without};
@@ -84,9 +84,10 @@ impl Elements {
         })
     }
 
-    /// How many there are.
+    /// How many there are: fewer than there are numbers.
     pub fn len(&self) -> usize
-        ensures { result ≡ length self.now }
+        ensures value { result ≡ length self.now }
+        ensures few { length self.now < 2 ^ 63 }
     {
         self.places.len()
     }

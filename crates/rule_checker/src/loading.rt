@@ -12,8 +12,8 @@ use crate::classes::{attributes_at, declared_class};
 use crate::makes::values_of;
 use crate::refusal::{CheckKind, CheckRefusal, Refusal};
 use ops_reader::{Form, Forms};
-use ops_text::{Duplicate, OutOfMemory, Sequence};
-use rule_base::{Class, Element, Program, Value};
+use ops_text::{OutOfMemory, Sequence};
+use rule_base::{Class, ElementView, Elements, Program, Value};
 use std::alloc::Global;
 
 fn make_of(
@@ -45,24 +45,19 @@ fn is_make(alloc: Global, classes: &[Class], form: &Form) -> Result<(u32, Sequen
     }
 }
 
-fn add_element(elements: &mut Vec<Element>, make: (u32, Sequence<Value>)) -> Result<(), OutOfMemory>
-    ensures { OnOk result (elements.new.items ≡ with_made elements.old.items make) }
+fn add_element(elements: &mut Elements, class: u32, values: &[Value]) -> Result<(), OutOfMemory>
+    ensures { OnOk result (elements.new ≡ with_made elements.old (class, values.now)) }
 {
-    let (class, values) = make;
     let tag = elements.len() as u64 + 1;
-    elements.push(Element { tag, class, values })?;
-    Ok(())
+    elements.push(ElementView { tag, class, values })
 }
 
-fn made_elements(
-    alloc: Global,
-    makes: &[(u32, Sequence<Value>)],
-) -> Result<Vec<Element>, OutOfMemory>
-    ensures { IfOk result (λ elements. elements.items ≡ fold with_made [] makes.now) }
+fn made_elements(alloc: Global, makes: &[(u32, Sequence<Value>)]) -> Result<Elements, OutOfMemory>
+    ensures { IfOk result (λ elements. elements ≡ fold with_made [] makes.now) }
 {
-    let mut elements = Vec::new(alloc);
-    for make in makes {
-        add_element(&mut elements, make.duplicate(alloc)?)?;
+    let mut elements = Elements::new(alloc);
+    for (class, values) in makes {
+        add_element(&mut elements, *class, values.as_slice())?;
     }
     Ok(elements)
 }
@@ -70,28 +65,24 @@ fn made_elements(
 fn add_form(
     alloc: Global,
     classes: &[Class],
-    elements: &mut Vec<Element>,
+    elements: &mut Elements,
     form: &Form,
 ) -> Result<(), Refusal>
     requires { AreFewClasses classes.now }
     ensures ok { OnOk result
-        (with_initial classes.now elements.old.items form.now ≡ Ok elements.new.items) }
+        (with_initial classes.now elements.old form.now ≡ Ok elements.new) }
     ensures refused { IfErr result
-        (Tells (with_initial classes.now elements.old.items form.now)) }
+        (Tells (with_initial classes.now elements.old form.now)) }
 {
-    let make = is_make(alloc, classes, form)?;
-    add_element(elements, make)?;
+    let (class, values) = is_make(alloc, classes, form)?;
+    add_element(elements, class, values.as_slice())?;
     Ok(())
 }
 
 /// The elements with which a run begins: those of the program's top-level makes and then those of the
 /// memory file's, or the first violated rule of the memory file. It goes over both once, and looks through the
 /// classes and the attributes of one for each form of the memory file.
-pub fn load(
-    alloc: Global,
-    program: &Program,
-    memory: &Forms,
-) -> Result<Sequence<Element>, CheckRefusal>
+pub fn load(alloc: Global, program: &Program, memory: &Forms) -> Result<Elements, CheckRefusal>
     requires { IsSound program.now }
     ensures ok { IfOk result (λ elements. opening_list program.now memory.now ≡ Ok elements) }
     ensures opening { length program.now.makes < 2 ^ 32
@@ -107,5 +98,5 @@ pub fn load(
         }
         loaded += 1;
     }
-    Ok(Sequence::from_vec(elements))
+    Ok(elements)
 }

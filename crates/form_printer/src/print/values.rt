@@ -35,8 +35,10 @@ fn is_bare(name: &[u8]) -> bool
     !name.is_empty() && is_word(name) && matches!(word_token(name), Token::Plain(_, _))
 }
 
+/// Appends the canonical text of the symbol with this number: bare where it reads back so, and else
+/// between bars.
 #[tactic(auto, unfolding(crate::specs::CanonicalValues::symbol_text))]
-pub(super) fn print_symbol(
+pub fn print_symbol(
     number: u32,
     symbols: &Symbols,
     out: &mut Vec<u8>,

@@ -1,6 +1,13 @@
 -- Each firing goes on from the core before it, and there is none after a halt.
-use Rattle.firing_core.proofs.FiringLemmas.{GoesOn-fires, halted_fires_nothing}
+use Rattle.std.proofs.Common.{arith}
+use Rattle.firing_core.proofs.FiringLemmas.{GoesOn-fires, count-fires, halted_fires_nothing}
 use Rattle.firing_core.proofs.finishing.finish.Goals as goal
+
+pub loop-core-smaller : goal.loop-core-smaller
+loop-core-smaller c =
+    let turn = rw c.in-Fire.is at c.in_ok-choice.ensures in
+    let fires = c.in_ok-commit-in-Fire.ensures.ok in
+    omega (arith, turn.0, count-fires c.loop-core.core c.commit.new.self c.in-Fire.choice fires, fires.same.with_budget)
 
 pub loop-core-preserved : goal.loop-core-preserved
 loop-core-preserved c =

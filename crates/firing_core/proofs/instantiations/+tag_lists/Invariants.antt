@@ -3,9 +3,9 @@ use Rattle.std.proofs.Common.{◌≡◌, ◌+◌, ◌*◌, take, length, false}
 use Rattle.rule_base.specs.ConflictSet.{tag_lists, tags_by}
 use Rattle.firing_core.proofs.instantiations.+tag_lists.Given as goal
 
-abbrev pub invariant-tag_lists_from-loop-element : goal.invariant-tag_lists_from-loop-element
-invariant-tag_lists_from-loop-element l = record {
-  so_far : l.lists.items ≡ tags_by false l.cond (take l.element-index l.memory) l.initial.binds (tag_lists l.rest l.memory);
+abbrev pub invariant-tag_lists_from-loop-at : goal.invariant-tag_lists_from-loop-at
+invariant-tag_lists_from-loop-at l = record {
+  so_far : l.lists.items ≡ tags_by false l.cond (take l.at l.memory) l.initial.binds (tag_lists l.rest l.memory);
   kept : l.binds ≡ l.initial.binds;
 }
 

@@ -12,10 +12,10 @@ first_unfired_of-requires c =
 
 pub returns-then-is_some : goal.returns-then-is_some
 returns-then-is_some c =
-    sym (c.loop-rule.invariant.same ∙ first_unfired-here c.args.entries.now c.args.memory.now c.loop-rule.number c.args.program.now.rules c.loop-rule.rule-index c.rule-item.result c.in_ok-found.found (search rules) (search rules) c.in_ok-found.ensures (sym c.if-is_some.ensures))
+    sym (c.loop-rule.invariant.same ∙ first_unfired-here c.args.fired.now c.args.memory.now c.loop-rule.number c.args.program.now.rules c.loop-rule.rule-index c.rule-item.result c.in_ok-found.found (search rules) (search rules) c.in_ok-found.ensures (sym c.if-is_some.ensures))
 
 pub loop-rule-preserved : goal.loop-rule-preserved
 loop-rule-preserved c = record {
-  same = c.loop-rule.invariant.same ∙ first_unfired-later c.args.entries.now c.args.memory.now c.loop-rule.number c.args.program.now.rules c.loop-rule.rule-index c.rule-item.result c.in_ok-found.found (search rules) (search rules) c.in_ok-found.ensures (sym c.if-is_some.ensures);
+  same = c.loop-rule.invariant.same ∙ first_unfired-later c.args.fired.now c.args.memory.now c.loop-rule.number c.args.program.now.rules c.loop-rule.rule-index c.rule-item.result c.in_ok-found.found (search rules) (search rules) c.in_ok-found.ensures (sym c.if-is_some.ensures);
   numbered = omega (arith, c.loop-rule.invariant.numbered);
 }

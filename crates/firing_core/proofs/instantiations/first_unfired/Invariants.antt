@@ -7,6 +7,6 @@ use Rattle.firing_core.proofs.instantiations.first_unfired.Given as goal
 
 abbrev pub invariant-loop-rule : goal.invariant-loop-rule
 invariant-loop-rule l = record {
-  same : first_unfired l.entries (conflict_set l.program l.memory) ≡ first_unfired l.entries (flat_map (instantiations l.memory) (enumerate_from l.number (drop l.rule-index l.program.rules)));
+  same : first_unfired l.fired (conflict_set l.program l.memory) ≡ first_unfired l.fired (flat_map (instantiations l.memory) (enumerate_from l.number (drop l.rule-index l.program.rules)));
   numbered : l.number ≡ l.rule-index;
 }

@@ -7,4 +7,4 @@ use Rattle.firing_core.proofs.instantiations.first_unfired_of.Given as goal
 
 abbrev pub invariant-loop-tags : goal.invariant-loop-tags
 invariant-loop-tags l =
-    first_unfired l.entries (instantiations l.memory (l.number, l.rule)) ≡ first_unfired l.entries (map (λ (tags : List ℕ). let c : Choice = record { rule = l.number; tags = tags } in c) (drop l.tags-index l.tags-items))
+    first_unfired l.fired (instantiations l.memory (l.number, l.rule)) ≡ first_unfired l.fired (map (λ (tags : List ℕ). let c : Choice = record { rule = l.number; tags = tags } in c) (drop l.tags-index l.tags-items))

@@ -3,5 +3,5 @@ use Rattle.std.proofs.Common.{◌≡◌, ◌++◌, map, take}
 use Rattle.rule_base.specs.declared.change.Tagged.TheVariants.{Born}
 use Rattle.firing_core.proofs.planning.add_born.Given as goal
 
-abbrev pub invariant-loop-element : goal.invariant-loop-element
-invariant-loop-element l = l.changes ≡ l.initial.changes ++ map Born (take l.element-index l.born)
+abbrev pub invariant-loop-at : goal.invariant-loop-at
+invariant-loop-at l = l.changes ≡ l.initial.changes ++ map Born (take l.at l.born)

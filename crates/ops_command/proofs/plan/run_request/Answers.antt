@@ -6,7 +6,7 @@ use Rattle.ops_command.specs.Account.{account_of}
 use Rattle.ops_command.specs.ProgramText.{NamedProgram}
 use Rattle.ops_command.proofs.ResultLemmas.{IfOk-map, IfErr-map}
 use Rattle.ops_command.proofs.FaultLemmas.{IsRefusal-map}
-use Rattle.ops_command.proofs.AnswerLemmas.{IsLater, IsSaidOf-program}
+use Rattle.ops_command.proofs.AnswerLemmas.{IsLater, RequestLedTo-program}
 use Rattle.ops_command.proofs.plan.run_request.Goals as goal
 
 pub returns-clause-ran : goal.returns-clause-ran
@@ -16,7 +16,7 @@ returns-clause-ran g c =
     let later : Files = record { told = shelf.told c.read_program.new.shelf; faults = shelf.faults c.read_program.new.shelf; faults_after = shelf.faults c.run_program.new.shelf } in
     let named : NamedProgram = record { program = c.in_ok-program.program; names = c.in_ok-program.symbols } in
     let moment : IsLater before later = record { told = c.read_program.ensures.same; counts = c.read_program.ensures.later; ends = refl } in
-    IfOk-map (λ plan said. IsSaidOf-program before later (asked_of c.args.request.now) named (account_of plan) c.in_ok-program.ensures.gives moment said)
+    IfOk-map (λ plan said. RequestLedTo-program before later (asked_of c.args.request.now) named (account_of plan) c.in_ok-program.ensures.gives moment said)
     c.run_program.result c.run_program.ensures.ran
 
 pub returns-clause-refused : goal.returns-clause-refused
@@ -26,5 +26,5 @@ returns-clause-refused g c =
     let later : Files = record { told = shelf.told c.read_program.new.shelf; faults = shelf.faults c.read_program.new.shelf; faults_after = shelf.faults c.run_program.new.shelf } in
     let named : NamedProgram = record { program = c.in_ok-program.program; names = c.in_ok-program.symbols } in
     let moment : IsLater before later = record { told = c.read_program.ensures.same; counts = c.read_program.ensures.later; ends = refl } in
-    IfErr-map (λ status wrong. IsRefusal-map status (λ account said. IsSaidOf-program before later (asked_of c.args.request.now) named account c.in_ok-program.ensures.gives moment said) wrong)
+    IfErr-map (λ status wrong. IsRefusal-map status (λ account said. RequestLedTo-program before later (asked_of c.args.request.now) named account c.in_ok-program.ensures.gives moment said) wrong)
     c.run_program.result c.run_program.ensures.refused

@@ -1,6 +1,7 @@
-use Rattle.std.proofs.Common.{◌≡◌, take}
-use Rattle.firing_core.specs.CoreState.{choices_of}
+-- The choices of the entries so far.
+use Rattle.std.proofs.Common.{◌≡◌}
+use Rattle.rule_base.specs.State.{choices_of}
 use Rattle.ops_command.proofs.run.choices_of.Given as goal
 
 abbrev pub invariant-loop-entry : goal.invariant-loop-entry
-invariant-loop-entry l = l.choices ≡ choices_of (take l.entry-index l.entries)
+invariant-loop-entry l = l.choices ≡ choices_of l.yielded

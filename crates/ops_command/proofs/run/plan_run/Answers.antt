@@ -1,27 +1,14 @@
--- A thin program neither halts nor faults.
-use Rattle.std.proofs.Common.{◌≡◌, true, sym, subst}
+-- A run may begin from an opening.
+use Rattle.std.proofs.Common.{sym, subst}
 use Rattle.rule_base.specs.declared.program.Program.{Program}
-use Rattle.rule_base.specs.Thin.{is_thin}
-use Rattle.firing_core.specs.CoreState.{choices_of}
-use Rattle.firing_core.specs.FinishedRun.{IsFinishedRun}
-use Rattle.ops_command.proofs.ThinLemmas.{halted-thin, no_fault-thin}
+use Rattle.rule_base.specs.declared.base.Base.{Base}
+use Rattle.rule_base.specs.declared.base.Refraction.TheVariants.{Once}
+use Rattle.rule_base.specs.Base.{IsLawfulBase}
+use Rattle.rule_base.proofs.BaseLemmas.{IsLawfulBase-opening}
 use Rattle.ops_command.proofs.run.plan_run.Goals as goal
 
-pub unreachable-requires : goal.unreachable-requires
-unreachable-requires c =
-    let core = c.in_ok-core in
-    let arc = c.in_ok-program in
-    let state = core.field-0.core.state in
-    let ran = subst (IsFinishedRun arc.program.value c.args.opening.now c.args.budget state) c.in-Halted.is core.ensures.finished in
-    let thin = subst (λ (p : Program). is_thin p ≡ true) (sym arc.ensures.ok) c.requires.thin in
-    halted-thin arc.program.value c.args.opening.now (choices_of state.entries) state thin ran.ran ran.ends.ends
-
-pub unreachable-requires-in-Fault : goal.unreachable-requires-in-Fault
-unreachable-requires-in-Fault c =
-    let core = c.in_ok-core in
-    let arc = c.in_ok-program in
-    let fault = c.in-Fault in
-    let state = core.field-0.core.state in
-    let ran = subst (IsFinishedRun arc.program.value c.args.opening.now c.args.budget state) fault.is core.ensures.finished in
-    let thin = subst (λ (p : Program). is_thin p ≡ true) (sym arc.ensures.ok) c.requires.thin in
-    no_fault-thin arc.program.value c.args.budget state fault.choice fault.action fault.cause thin ran.ends.ends
+pub run_alone-requires-clause-lawful : goal.run_alone-requires-clause-lawful
+run_alone-requires-clause-lawful c =
+    let opening = IsLawfulBase-opening c.args.program c.args.opening Once c.requires.opening in
+    subst (λ (p : Program). IsLawfulBase p c.opening-base.result) (sym c.in_ok-program.ensures.ok)
+    (subst (λ (base : Base). IsLawfulBase c.args.program base) (sym c.opening-base.ensures) opening)

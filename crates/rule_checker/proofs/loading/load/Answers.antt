@@ -12,12 +12,11 @@ pub returns-clause-opening : goal.returns-clause-opening
 returns-clause-opening c few_makes =
     let program = c.args.program.now in
     let memory = c.args.memory.now in
-    let elements = c.loop-form.elements.items in
+    let elements = c.loop-form.elements in
     let number = c.loop-form.loaded + 1 in
     let index = c.loop-form.form-index in
     let all = sym (at_drop_all (after_forms (with_initial program.classes) number elements) c.as_slice-form-items.result.now index c.loop-form-test.false) in
     let same_forms = ap (λ forms. after_forms (with_initial program.classes) number elements (drop index forms)) c.as_slice-form-items.ensures.forms in
     let same_classes = ap (λ classes. after_forms (with_initial classes) number elements (drop index memory)) c.as_slice-classes.ensures in
     let passes = sym c.loop-form.invariant.same ∙ same_classes ∙ sym same_forms ∙ sym all in
-    subst (IsOpening (sizes_of program.classes)) (sym c.from_vec.ensures)
     (opening_list-IsOpening program memory elements c.requires few_makes c.as_slice-form-items.ensures.shape.few passes)

@@ -6,6 +6,6 @@ use Rattle.rule_checker.proofs.loading.load.Given as goal
 -- what is left leads to the same end
 abbrev pub invariant-loop-form : goal.invariant-loop-form
 invariant-loop-form l = record {
-  same : after_forms (with_initial l.classes) (l.loaded + 1) l.elements.items (drop l.form-index l.memory) ≡ opening_list l.program l.memory;
+  same : after_forms (with_initial l.classes) (l.loaded + 1) l.elements (drop l.form-index l.memory) ≡ opening_list l.program l.memory;
   count : l.loaded ≡ l.form-index;
 }

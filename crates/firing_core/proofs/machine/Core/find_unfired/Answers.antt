@@ -12,5 +12,5 @@ use Rattle.firing_core.proofs.machine.Core.find_unfired.Goals as goal
 pub returns : goal.returns
 returns c =
     let core = c.self.inside in
-    let found_is : Option Choice → Type 0 = λ found. found ≡ first_unfired core.entries.items (conflict_set core.program.value core.memory.items) in
+    let found_is : Option Choice → Type 0 = λ found. found ≡ first_unfired core.fired.items (conflict_set core.program.value core.memory) in
     IfOk-weaker c.first_unfired.result found_is (IsNext c.args.self.now) (λ found is. subst (λ (k : CoreState). IsNext k found) c.self.view_is (first_unfired_is core found c.self.invariant is)) (search rules)

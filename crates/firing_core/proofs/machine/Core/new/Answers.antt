@@ -1,9 +1,22 @@
--- The fields are those of a core at its opening.
-use Rattle.std.proofs.Common.{rules, subst}
+-- The fields are those of a core at its base.
+use Rattle.std.proofs.Common.{◌≡◌, false, rules, sym, subst}
+use Rattle.rule_base.specs.State.{State, start}
+use Rattle.firing_core.specs.declared.machine.Core.TheInside.{Inside}
+use Rattle.firing_core.specs.CoreFields.{state_in}
+use Rattle.firing_core.specs.CoreState.{CoreState}
 use Rattle.firing_core.specs.Kept.{IsKept}
-use Rattle.firing_core.proofs.LawfulLemmas.{IsKept-opening}
+use Rattle.firing_core.proofs.FieldLemmas.{state_in-start}
+use Rattle.firing_core.proofs.LawfulLemmas.{IsKept-start}
 use Rattle.firing_core.proofs.machine.Core.new.Goals as goal
 
 pub invariant_of-result : goal.invariant_of-result
 invariant_of-result c =
-    subst IsKept (search rules) (IsKept-opening c.args.program.value c.args.opening.now c.args.budget c.requires.sound c.requires.thin c.requires.begins c.requires.budget)
+    let inside : Inside = record { program = c.args.program; base = c.args.base; budget = c.args.budget; memory = c.in_ok-memory.memory; next = c.args.base.next; fired = c.in_ok-fired.fired; entries = c.new.result; halted = false } in
+    let begins : state_in inside ≡ start c.args.base = state_in-start inside c.requires.lawful.matching (search rules) (search rules) (search rules) (search rules) (search rules) in
+    subst (λ (s : State). IsKept (record { program = c.args.program.value; base = c.args.base; budget = c.args.budget; state = s })) (sym begins)
+    (IsKept-start c.args.program.value c.args.base c.args.budget c.requires.sound c.requires.thin c.requires.lawful c.requires.budget)
+
+pub returns-clause-begins : goal.returns-clause-begins
+returns-clause-begins c =
+    let inside : Inside = record { program = c.args.program; base = c.args.base; budget = c.args.budget; memory = c.in_ok-memory.memory; next = c.args.base.next; fired = c.in_ok-fired.fired; entries = c.new.result; halted = false } in
+    state_in-start inside c.requires.lawful.matching (search rules) (search rules) (search rules) (search rules) (search rules)
