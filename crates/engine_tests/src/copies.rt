@@ -1,9 +1,9 @@
 //! Copies are made where there is memory.
 
-use ops_text::Sequence;
+use ops_text::{OutOfMemory, Sequence};
 use rule_base::{
-    Action, Candidate, Change, Choice, Class, Cond, Element, Entry, Expr, Item, Op, Operand,
-    Program, Rule, Tagged, Term, Test,
+    Action, Base, Candidate, Change, Choice, Class, Cond, Element, ElementView, Elements, Entry,
+    Expr, Item, Op, Operand, Program, Refraction, Rule, Tagged, Term, Test, Value,
 };
 use sqlite_items::Items;
 use std::alloc::Global;
@@ -102,8 +102,68 @@ fn candidates_are_copied(rt: HostRuntime) -> Result<(), Fail> {
     let first = choice(rt.alloc());
     let candidate = Candidate {
         choice: first.copy(rt.alloc())?,
-        elements: Sequence::new(rt.alloc()),
+        elements: Elements::new(rt.alloc()),
     };
     assert!(rt; candidate.copy(rt.alloc())?.choice.same(&first));
+    Ok(())
+}
+
+/// The elements with their tags and values, in a line.
+fn told(alloc: Global, elements: &Elements) -> Result<String, OutOfMemory> {
+    let mut text = String::new(alloc);
+    for at in 0..elements.len() {
+        let element = elements.at(at);
+        text.push_str(&format!(in alloc;
+            "{}:{}{:?} ",
+            element.tag, element.class, element.values
+        )?)?;
+    }
+    Ok(text)
+}
+
+#[test]
+fn elements_lie_in_flat_arrays(rt: HostRuntime) -> Result<(), Fail> {
+    let alloc = rt.alloc();
+    let mut elements = Elements::new(alloc);
+    for (tag, values) in [
+        (1, [Value::Int(7)].as_slice()),
+        (2, &[]),
+        (3, &[Value::Sym(4), Value::Int(-1)]),
+    ] {
+        elements.push(ElementView {
+            tag,
+            class: 5,
+            values,
+        })?;
+    }
+    let copy = elements.copy(alloc)?;
+    let listed = elements.to_elements(alloc)?;
+    let again = Elements::from_slice(alloc, listed.as_slice())?;
+    elements.change(alloc, &[1], &copy)?;
+    assert_eq!(rt;
+        told(alloc, &copy)?.as_str(),
+        "1:5[Int(7)] 2:5[] 3:5[Sym(4), Int(-1)] "
+    );
+    assert_eq!(rt; told(alloc, &again)?.as_str(), told(alloc, &copy)?.as_str());
+    assert_eq!(rt;
+        told(alloc, &elements)?.as_str(),
+        "2:5[] 3:5[Sym(4), Int(-1)] 1:5[Int(7)] 2:5[] 3:5[Sym(4), Int(-1)] "
+    );
+    assert!(rt; elements.with_tag(4).is_none());
+    assert!(rt;
+        elements
+            .with_tag(1)
+            .is_some_and(|element| element.values.len() == 1)
+    );
+    elements.clear();
+    assert!(rt; elements.is_empty());
+    Ok(())
+}
+
+#[test]
+fn an_opening_has_the_next_tag(rt: HostRuntime) -> Result<(), Fail> {
+    let base = Base::opening(rt.alloc(), Elements::new(rt.alloc()), Refraction::Renewed);
+    assert_eq!(rt; base.next, 1);
+    assert!(rt; base.fired.is_empty() && base.refraction == Refraction::Renewed);
     Ok(())
 }

@@ -13,13 +13,14 @@ use std::alloc::Global;
 use std::process::ExitCode;
 use std::{env, io};
 
-fn exit_number(status: Status) -> u8
-    ensures { result ≡ exit_number status }
+fn exit_number(status: &Status) -> u8
+    ensures { result ≡ exit_number status.now }
 {
     match status {
-        Status::Quiet => 0,
+        Status::Quiet | Status::Halted => 0,
         Status::Usage { .. } => 2,
         Status::Spent { .. } => 3,
+        Status::Fault { .. } => 4,
         Status::ReadFault { .. } => 5,
         Status::WriteFault => 6,
         Status::Syntax { .. } => 7,
@@ -50,12 +51,12 @@ fn exit_of<F: Shelf, K: Sink>(alloc: Global, words: &[String], shelf: &mut F, ou
         })
         result }
 {
-    exit_number(run_without_threads(alloc, words, shelf, out).status)
+    exit_number(&run_without_threads(alloc, words, shelf, out).status)
 }
 
 fn main(rt: HostRuntime) -> ExitCode {
     let Ok(words) = words_after_name(&rt) else {
-        return ExitCode::from(exit_number(Status::OutOfMemory));
+        return ExitCode::from(exit_number(&Status::OutOfMemory));
     };
     let mut shelf = FileShelf::new(&rt);
     let mut out = OutSink::new(io::writer(&rt));

@@ -3,10 +3,8 @@ pub mod ResultLemmas
 pub mod WordLemmas
 pub mod LineLemmas
 pub mod UnbuiltLemmas
-pub mod FaultLemmas
 pub mod ReaderLemmas
 pub mod EmptyTextLemmas
-pub mod AnswerLemmas
 pub mod DecidedLemmas
 pub mod PromiseLemmas
 pub mod DecidedLaw

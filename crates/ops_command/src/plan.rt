@@ -74,6 +74,7 @@ fn run_words<F: Shelf>(alloc: Global, words: &[String], shelf: &mut F) -> Result
         (files_between F.told F.faults shelf.old shelf.new))) }
     ensures no_fault { OnOk result (F.faults shelf.new ≡ F.faults shelf.old) }
     ensures counted { IfErr result (HidesNoReadFault (F.faults shelf.old) (F.faults shelf.new)) }
+
     // Whatever the answer, the files and what is told of them stay.
     ensures same { F.told shelf.new ≡ F.told shelf.old }
     ensures later { (other : List ℕ) → F.faults shelf.old other ≤ F.faults shelf.new other }
@@ -84,7 +85,7 @@ fn run_words<F: Shelf>(alloc: Global, words: &[String], shelf: &mut F) -> Result
     }
 }
 
-/// The run that is asked for.
+/// The run that is asked for: of the program of one file, from the opening memory that it has with another.
 fn run_request<F: Shelf>(
     alloc: Global,
     shelf: &mut F,
@@ -99,40 +100,13 @@ fn run_request<F: Shelf>(
         (asked_of request.now))) }
     ensures no_fault { OnOk result (F.faults shelf.new ≡ F.faults shelf.old) }
     ensures counted { IfErr result (HidesNoReadFault (F.faults shelf.old) (F.faults shelf.new)) }
+
     // Whatever the answer, the files and what is told of them stay.
     ensures same { F.told shelf.new ≡ F.told shelf.old }
     ensures later { (other : List ℕ) → F.faults shelf.old other ≤ F.faults shelf.new other }
 {
     let (program, mut symbols) = read_program(alloc, shelf, request.program)?;
-    run_program(alloc, shelf, request, program, &mut symbols)
-}
-
-/// The run of this program, whose symbols have these names.
-fn run_program<F: Shelf>(
-    alloc: Global,
-    shelf: &mut F,
-    request: &Request<'_>,
-    program: Program,
-    symbols: &mut Symbols,
-) -> Result<Plan, Status>
-    requires budget { IsBudget request.now.budget }
-    requires sound { IsSound program }
-    requires thin { is_thin program ≡ true }
-    requires few_makes { length program.makes < 2 ^ 32 }
-    requires few_names { length symbols.old ≤ 1 + most_bytes }
-    ensures ran { IfOk result (λ plan. ProgramLedTo
-        (files_between F.told F.faults shelf.old shelf.new)
-        (asked_of request.now) (record { program = program; names = symbols.old }) (account_of plan)) }
-    ensures refused { IfErr result (IsRefusal (ProgramLedTo
-        (files_between F.told F.faults shelf.old shelf.new)
-        (asked_of request.now) (record { program = program; names = symbols.old }))) }
-    ensures no_fault { OnOk result (F.faults shelf.new ≡ F.faults shelf.old) }
-    ensures counted { IfErr result (HidesNoReadFault (F.faults shelf.old) (F.faults shelf.new)) }
-    // Whatever the answer, the files and what is told of them stay.
-    ensures same { F.told shelf.new ≡ F.told shelf.old }
-    ensures later { (other : List ℕ) → F.faults shelf.old other ≤ F.faults shelf.new other }
-{
-    let opening = read_opening(alloc, shelf, request.memory, &program, symbols)?;
-    let plan = plan_run(alloc, program, opening, request.budget, symbols)?;
+    let opening = read_opening(alloc, shelf, request.memory, &program, &mut symbols)?;
+    let plan = plan_run(alloc, program, opening, request.budget, &symbols)?;
     Ok(plan)
 }

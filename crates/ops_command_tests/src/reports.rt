@@ -1,7 +1,7 @@
 //! What a report holds: its status, and the choices, the memory and the next tag of its run.
 
 use crate::setting::call;
-use ops_command::{CheckKind, FileKind, Report, Status, SyntaxKind, UsageKind};
+use ops_command::Report;
 use ops_text::OutOfMemory;
 use std::alloc::Global;
 use std::test::Fail;
@@ -11,122 +11,102 @@ type Row = (
     &'static [&'static str],
     &'static str,
     &'static str,
-    Status,
+    &'static str,
     &'static str,
 );
 
 #[test]
 fn a_call_has_the_status_that_it_tells(rt: HostRuntime) -> Result<(), Fail> {
-    let (program, memory) = (FileKind::Program, FileKind::Memory);
     let rows: [Row; 12] = [
         (
             &["run", "p", "m"],
             "(literalize a x)(make a ^x 1)(p hi (a) --> (write hello))",
             "(make a ^x 2)",
-            Status::Quiet,
+            "Quiet",
             "hello hello\n; quiet, firings 2, elements 2, next 3\n",
         ),
         (
             &["run", "p", "--firings", "3"],
             "(literalize a x)(make a)(p r (a) --> (make a))",
             "",
-            Status::Spent { n: 3 },
+            "Spent { n: 3 }",
             "; spent, firings 3, elements 4, next 5\n",
         ),
         (
             &["run"],
             "",
             "",
-            Status::Usage {
-                kind: UsageKind::Words,
-            },
+            "Usage { kind: Words }",
             "ops: usage: words\n",
         ),
         (
             &["run", "p", "--firings", ""],
             "",
             "",
-            Status::Usage {
-                kind: UsageKind::Number,
-            },
+            "Usage { kind: Number }",
             "ops: usage: number\n",
         ),
         (
             &["run", "q", "m"],
             "",
             "",
-            Status::ReadFault { file: program },
+            "ReadFault { file: Program }",
             "ops: cannot read program\n",
         ),
         (
             &["run", "p", "q"],
             "",
             "",
-            Status::ReadFault { file: memory },
+            "ReadFault { file: Memory }",
             "ops: cannot read memory\n",
         ),
         (
             &["run", "p"],
             "(p r (a ^x 1) --> (halt)",
             "",
-            Status::Syntax {
-                file: program,
-                at: 24,
-                kind: SyntaxKind::Unclosed,
-            },
+            "Syntax { file: Program, at: 24, kind: Unclosed }",
             "ops: syntax error in program at byte 24: unclosed\n",
         ),
         (
             &["run", "p", "m"],
             "(literalize a x)",
             "(make a) (external f)",
-            Status::Syntax {
-                file: memory,
-                at: 10,
-                kind: SyntaxKind::NotInProfile,
-            },
+            "Syntax { file: Memory, at: 10, kind: NotInProfile }",
             "ops: syntax error in memory at byte 10: not in profile\n",
         ),
         (
             &["run", "p"],
             "(literalize a x)(p u (a) -(a ^x <w>) --> (write <w>))",
             "",
-            Status::Check {
-                file: program,
-                form: 2,
-                kind: CheckKind::Unbound,
-            },
+            "Check { file: Program, form: 2, kind: Unbound }",
             "ops: check error in program, form 2: unbound\n",
         ),
         (
             &["run", "p", "m"],
             "(literalize a x)",
             "(make a)(make a ^y 1)",
-            Status::Check {
-                file: memory,
-                form: 2,
-                kind: CheckKind::UnknownAttribute,
-            },
+            "Check { file: Memory, form: 2, kind: UnknownAttribute }",
             "ops: check error in memory, form 2: unknown attribute\n",
         ),
         (
             &["run", "p"],
             "(literalize a x)(p r (a ^x 1) --> (halt))",
             "",
-            Status::NotBuilt { at: 16 },
+            "NotBuilt { at: 16 }",
             "ops: not built at byte 16\n",
         ),
         (
             &["run", "p", "m"],
             "",
             "",
-            Status::Quiet,
+            "Quiet",
             "; quiet, firings 0, elements 0, next 1\n",
         ),
     ];
     for (texts, program, memory, status, printed) in rows {
         let (report, held) = call(rt.alloc(), texts, program, memory)?;
-        assert_eq!(rt; report.status, status, "status of {printed}");
+        let told = format!(in rt.alloc(); "{:?}", report.status)?;
+        assert_eq!(rt; told.as_str(), status, "status of {printed}");
         assert_eq!(rt; held.as_slice(), printed.as_bytes(), "{printed}");
     }
     Ok(())
@@ -140,8 +120,9 @@ fn told(alloc: Global, report: &Report) -> Result<String, OutOfMemory> {
         text.push_str(&format!(in alloc; "{}{tags:?} ", choice.rule)?)?;
     }
     text.push_str("|")?;
-    for element in report.memory.as_slice() {
-        let values = element.values.as_slice();
+    for at in 0..report.memory.len() {
+        let element = report.memory.at(at);
+        let values = element.values;
         text.push_str(&format!(in alloc; " {}:{}{values:?}", element.tag, element.class)?)?;
     }
     text.push_str(&format!(in alloc; " | {}", report.next)?)?;
