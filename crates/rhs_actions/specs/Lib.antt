@@ -1,0 +1,2 @@
+-- what the public calls promise
+pub mod Operators

@@ -1,0 +1,7 @@
+//! The effect of a firing, whole: what the right-hand side of a rule does with the elements that match
+//! its positive condition elements. It knows no working memory, no time tags to come and no journal.
+#![tactic(auto)]
+
+mod operators;
+
+pub use operators::operated;
