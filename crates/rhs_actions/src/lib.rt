@@ -4,5 +4,8 @@
 
 mod expressions;
 mod operators;
+mod refusal;
+mod terms;
 
 pub use operators::operated;
+pub use refusal::EffectRefusal;
