@@ -1,8 +1,42 @@
--- How far a right-hand side has come, and what further items of an effect are put behind.
-use Rattle.std.specs.Prelude.{List, ◌++◌, Result, Ok}
+-- How far a right-hand side has come, and what each kind of action makes of it.
+use Rattle.std.specs.Prelude.{ℕ, List, [], ◌∷◌, ◌++◌, true, false, Result, Ok, replicate}
+use Rattle.rule_base.specs.declared.action.Term.{Term}
+use Rattle.rule_base.specs.declared.action.Item.{Item}
+use Rattle.rule_base.specs.declared.change.Change.{Change}
+use Rattle.rule_base.specs.declared.change.Change.TheVariants as change
 use Rattle.rule_base.specs.declared.entry.FaultCause.{FaultCause}
 use Rattle.rule_base.specs.Chains.{◌>>=◌}
+use Rattle.rule_base.specs.Value.{nil}
+use Rattle.rule_base.specs.Bindings.{Bindings}
+use Rattle.rule_base.specs.Term.{after_sets, item_pieces}
+use Rattle.rule_base.specs.Effect.{Effect, Progress, changing}
+
+-- nothing done
+abbrev pub no_effect : Effect
+no_effect = record { changes = []; pieces = []; halts = false }
+
+-- a right-hand side that has come to these bindings and has done this
+abbrev pub reached : Bindings → Effect → Progress
+reached bindings done = record { bindings = bindings; done = done }
 
 -- a list with what is put behind it, where there is that
 abbrev pub behind : {X : Type 0} → List X → Result (List X) FaultCause → Result (List X) FaultCause
 behind old more = more >>= λ xs. Ok (old ++ xs)
+
+-- a make, of a class with so many attributes
+abbrev pub made : ℕ → ℕ → List (ℕ × Term) → Progress → Result Progress FaultCause
+made class size sets p = after_sets p.bindings sets (replicate size nil) >>= λ values. Ok (changing p (change.Make class values ∷ []))
+
+-- a write
+abbrev pub written : List Item → Progress → Result Progress FaultCause
+written items p =
+    item_pieces p.bindings items >>= λ more.
+    Ok (record p { done = record { changes = p.done.changes; pieces = p.done.pieces ++ more; halts = p.done.halts } })
+
+-- the effect with one removal more
+abbrev pub removed : Effect → ℕ → Effect
+removed done tag = record { changes = done.changes ++ change.Remove tag ∷ []; pieces = done.pieces; halts = done.halts }
+
+-- the effect that halts the run
+abbrev pub halted : Effect → Effect
+halted done = record { changes = done.changes; pieces = done.pieces; halts = true }

@@ -2,10 +2,12 @@
 //! its positive condition elements. It knows no working memory, no time tags to come and no journal.
 #![tactic(auto)]
 
+mod effect;
 mod expressions;
 mod operators;
 mod refusal;
 mod terms;
 
+pub use effect::{ChangeView, Effect};
 pub use operators::operated;
 pub use refusal::EffectRefusal;
