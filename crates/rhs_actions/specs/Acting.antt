@@ -1,5 +1,6 @@
 -- How far a right-hand side has come, and what each kind of action makes of it.
-use Rattle.std.specs.Prelude.{ℕ, List, [], ◌∷◌, ◌++◌, true, false, Result, Ok, replicate}
+use Rattle.std.specs.Prelude.{ℕ, List, [], ◌∷◌, ◌++◌, true, false, Result, Ok, fold, replicate, slice_get}
+use Rattle.rule_base.specs.declared.element.Element.{Element}
 use Rattle.rule_base.specs.declared.action.Term.{Term}
 use Rattle.rule_base.specs.declared.action.Item.{Item}
 use Rattle.rule_base.specs.declared.change.Change.{Change}
@@ -7,9 +8,9 @@ use Rattle.rule_base.specs.declared.change.Change.TheVariants as change
 use Rattle.rule_base.specs.declared.entry.FaultCause.{FaultCause}
 use Rattle.rule_base.specs.Chains.{◌>>=◌}
 use Rattle.rule_base.specs.Value.{nil}
-use Rattle.rule_base.specs.Bindings.{Bindings}
-use Rattle.rule_base.specs.Term.{after_sets, item_pieces}
-use Rattle.rule_base.specs.Effect.{Effect, Progress, changing}
+use Rattle.rule_base.specs.Bindings.{Bindings, bound}
+use Rattle.rule_base.specs.Term.{after_sets, item_pieces, term_value}
+use Rattle.rule_base.specs.Effect.{Effect, Progress, after_remove, changing}
 
 -- nothing done
 abbrev pub no_effect : Effect
@@ -32,6 +33,14 @@ abbrev pub written : List Item → Progress → Result Progress FaultCause
 written items p =
     item_pieces p.bindings items >>= λ more.
     Ok (record p { done = record { changes = p.done.changes; pieces = p.done.pieces ++ more; halts = p.done.halts } })
+
+-- a bind
+abbrev pub after_bind : Bindings → ℕ → Term → Result Bindings FaultCause
+after_bind bindings var term = term_value bindings term >>= λ value. Ok (bound bindings var value)
+
+-- removes of the designated elements, one after another
+abbrev pub after_removes : List Element → List ℕ → Progress → Progress
+after_removes elements ats p = fold (λ before at. after_remove (slice_get elements at) before) p ats
 
 -- the effect with one removal more
 abbrev pub removed : Effect → ℕ → Effect

@@ -2,6 +2,7 @@
 //! its positive condition elements. It knows no working memory, no time tags to come and no journal.
 #![tactic(auto)]
 
+mod actions;
 mod effect;
 mod expressions;
 mod operators;
