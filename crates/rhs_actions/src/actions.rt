@@ -1,7 +1,7 @@
 //! The actions of a right-hand side: each adds to an effect, or binds a variable.
 
 ghost use Rattle.std.specs.Prelude.{◌≡◌, Ok, Err, IfErr, OnOk, option_map, slice_get};
-ghost use Rattle.rule_base.specs.Bindings.{Bindings, bound};
+ghost use Rattle.rule_base.specs.Bindings.{Bindings};
 ghost use Rattle.rule_base.specs.Views.{element_in};
 ghost use Rattle.rule_base.specs.Term.{term_value};
 ghost use Rattle.rule_base.specs.Effect.{after_action, after_modify, after_remove};
@@ -9,6 +9,7 @@ ghost use Rattle.rhs_actions.specs.Refusals.{Tells};
 ghost use Rattle.rhs_actions.specs.Acting.{after_bind, after_removes, reached};
 
 use crate::Effect;
+use crate::bindings::bind;
 use crate::refusal::Stop;
 use crate::terms::term_value;
 use element_tests::Binds;
@@ -36,7 +37,7 @@ pub(crate) fn act(
             Ok(())
         }
         Action::Bind { var, term } => {
-            bind(*var, term, binds)?;
+            bind_term(*var, term, binds)?;
             Ok(())
         }
         Action::Write { items } => effect.write(items.as_slice(), binds),
@@ -103,14 +104,12 @@ fn designated(elements: &Elements, at: u32) -> Option<ElementView<'_>>
     }
 }
 
-/// Gives the variable what the term gives, where the row has a place for it.
-fn bind(var: u32, term: &Term, binds: &mut Binds) -> Result<(), FaultCause>
+/// Gives the variable what the term gives.
+fn bind_term(var: u32, term: &Term, binds: &mut Binds) -> Result<(), FaultCause>
     ensures ok { OnOk result (after_bind binds.old var term.now ≡ Ok binds.new) }
     ensures failed { IfErr result (λ cause. term_value binds.old term.now ≡ Err cause) }
 {
     let value = term_value(binds, term)?;
-    if (var as usize) < binds.as_slice().len() {
-        binds.set(var, value);
-    }
+    bind(var, value, binds);
     Ok(())
 }

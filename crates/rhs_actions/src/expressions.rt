@@ -1,11 +1,11 @@
 //! The expressions of `compute`, evaluated from right to left on a row of bindings.
 
 ghost use Rattle.std.specs.Prelude.{◌≡◌};
-ghost use Rattle.rule_base.specs.Bindings.{value_of};
 ghost use Rattle.rule_base.specs.Compute.{computed, number_of, operand_value};
 ghost use Rattle.rule_base.specs.Expression.{tree_of};
 ghost use Rattle.rhs_actions.specs.Expressions.{leaf, number_in, with_right};
 
+use crate::bindings::value_of;
 use crate::operators::operated;
 use element_tests::Binds;
 use rule_base::{Expr, FaultCause, Op, Operand, Value};
@@ -56,15 +56,5 @@ fn number_of(value: Value) -> Result<i64, FaultCause>
     match value {
         Value::Int(number) => Ok(number),
         Value::Sym(_) => Err(FaultCause::NotANumber),
-    }
-}
-
-/// The variable's value: one without a value counts as nil.
-pub fn value_of(binds: &Binds, var: u32) -> Value
-    ensures { result ≡ value_of binds.now var }
-{
-    match binds.as_slice().get(var as usize) {
-        Some(Some(value)) => *value,
-        _ => Value::Sym(0),
     }
 }

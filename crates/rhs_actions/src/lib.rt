@@ -3,6 +3,7 @@
 #![tactic(auto)]
 
 mod actions;
+mod bindings;
 mod effect;
 mod expressions;
 mod operators;

@@ -5,7 +5,8 @@ ghost use Rattle.rule_base.specs.Term.{after_sets, item_piece, item_pieces, term
 ghost use Rattle.rhs_actions.specs.Refusals.{Tells};
 ghost use Rattle.rhs_actions.specs.Acting.{behind};
 
-use crate::expressions::{computed, value_of};
+use crate::bindings::value_of;
+use crate::expressions::computed;
 use crate::refusal::Stop;
 use element_tests::Binds;
 use rule_base::{FaultCause, Item, Piece, Term, Value};
