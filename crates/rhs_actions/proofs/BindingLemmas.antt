@@ -53,9 +53,5 @@ AfterNext conds o = option_and_then (λ (after : List Element × Bindings). matc
 matched_at : (conds : List Cond) (i : ℕ) (cond : Cond) (elements : List Element) (b : Bindings) → i < length conds → cond ≡ get_or conds i cond → matched (drop i conds) elements b ≡ AfterNext (drop (i + 1) conds) (after_element cond.negated cond elements b)
 matched_at conds i cond elements b within at = ap (λ cs. matched cs elements b) (drop_at_place conds i cond within at)
 
-pub takes_at : (conds : List Cond) (i : ℕ) (cond : Cond) (elements : List Element) (b : Bindings) → i < length conds → cond ≡ get_or conds i cond → IsSome (matched (drop i conds) elements b) → IsSome (after_element cond.negated cond elements b)
-takes_at conds i cond elements b within at some =
-    first_some (after_element cond.negated cond elements b) (λ (after : List Element × Bindings). matched (drop (i + 1) conds) after.0 after.1) (subst IsSome (matched_at conds i cond elements b within at) some)
-
 pub matched_next : (conds : List Cond) (i : ℕ) (cond : Cond) (elements left : List Element) (b after : Bindings) → i < length conds → cond ≡ get_or conds i cond → after_element cond.negated cond elements b ≡ Some (left, after) → matched (drop i conds) elements b ≡ matched (drop (i + 1) conds) left after
 matched_next conds i cond elements left b after within at is = matched_at conds i cond elements b within at ∙ ap (AfterNext (drop (i + 1) conds)) is

@@ -6,10 +6,12 @@ mod actions;
 mod bindings;
 mod effect;
 mod expressions;
+mod firing;
 mod operators;
 mod refusal;
 mod terms;
 
 pub use effect::{ChangeView, Effect};
+pub use firing::fire_into;
 pub use operators::operated;
 pub use refusal::EffectRefusal;

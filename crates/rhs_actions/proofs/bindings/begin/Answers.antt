@@ -1,6 +1,6 @@
 -- One condition element further.
 use Rattle.std.proofs.Common.{◌≡◌, IsSome, drop, length, ap, ◌∙◌, rules, subst}
-use Rattle.rhs_actions.proofs.BindingLemmas.{matched_next, takes_at}
+use Rattle.rhs_actions.proofs.BindingLemmas.{matched_next}
 use Rattle.rhs_actions.proofs.bindings.begin.Goals as goal
 
 pub loop-cond-preserved : goal.loop-cond-preserved
