@@ -2,8 +2,10 @@
 pub mod Operators
 pub mod Refusals
 pub mod ChangeViews
--- how an effect lies in its fields
+pub mod Outcomes
+-- what lies in fields
 pub mod EffectPlaces
+pub mod OutcomeFields
 -- what the crate's functions promise each other
 pub mod Expressions
 pub mod Acting

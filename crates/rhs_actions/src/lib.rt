@@ -8,10 +8,12 @@ mod effect;
 mod expressions;
 mod firing;
 mod operators;
+mod outcomes;
 mod refusal;
 mod terms;
 
 pub use effect::{ChangeView, Effect};
 pub use firing::fire_into;
 pub use operators::operated;
-pub use refusal::EffectRefusal;
+pub use outcomes::{Delta, Failed};
+pub use refusal::{EffectRefusal, FireRefusal};

@@ -3,8 +3,10 @@
 ghost use Rattle.std.specs.Prelude.{◌≡◌};
 ghost use Rattle.rhs_actions.specs.declared.refusal.Stop.TheVariants.{Fails as fails, OutOfMemory as no_memory};
 ghost use Rattle.rhs_actions.specs.declared.refusal.EffectRefusal.TheVariants as effect;
+ghost use Rattle.rhs_actions.specs.declared.refusal.FireRefusal.TheVariants as fire;
 ghost use Rattle.rhs_actions.specs.Refusals.{refusal_at};
 
+use crate::Failed;
 use rule_base::FaultCause;
 use std::alloc::{AllocError, AllocFailed};
 
@@ -13,6 +15,13 @@ use std::alloc::{AllocError, AllocFailed};
 #[derive(Clone, Copy, Debug, PartialEq, Eq)]
 pub enum EffectRefusal {
     Failed { action: u32, cause: FaultCause },
+    OutOfMemory,
+}
+
+/// Why a rule doesn't fire.
+#[derive(Drop)]
+pub enum FireRefusal {
+    Failed(Failed),
     OutOfMemory,
 }
 
@@ -64,5 +73,13 @@ impl From<AllocError> for EffectRefusal {
 
     fn from(_error: AllocError) -> EffectRefusal {
         EffectRefusal::OutOfMemory
+    }
+}
+
+impl From<AllocError> for FireRefusal {
+    ghost from_gives = { λ _ refusal. refusal ≡ fire.OutOfMemory };
+
+    fn from(_error: AllocError) -> FireRefusal {
+        FireRefusal::OutOfMemory
     }
 }
