@@ -3,6 +3,7 @@ pub mod Operators
 pub mod Refusals
 pub mod ChangeViews
 pub mod Outcomes
+pub mod Fire
 -- what lies in fields
 pub mod EffectPlaces
 pub mod OutcomeFields

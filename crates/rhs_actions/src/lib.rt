@@ -13,7 +13,7 @@ mod refusal;
 mod terms;
 
 pub use effect::{ChangeView, Effect};
-pub use firing::fire_into;
+pub use firing::{fire, fire_into};
 pub use operators::operated;
 pub use outcomes::{Delta, Failed};
 pub use refusal::{EffectRefusal, FireRefusal};
