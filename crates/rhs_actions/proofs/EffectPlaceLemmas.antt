@@ -16,6 +16,7 @@ use Rattle.rule_base.specs.Bindings.{Bindings}
 use Rattle.rule_base.specs.Term.{after_sets}
 use Rattle.rule_base.specs.Effect.{Effect, Progress, changing, is_gone, modified, removed_tags}
 use Rattle.rule_base.proofs.EachLemmas.{Each-append}
+use Rattle.rule_base.proofs.EffectLemmas.{makes}
 use Rattle.rhs_actions.specs.declared.effect.Placed.{Placed}
 use Rattle.rhs_actions.specs.declared.effect.Placed.TheVariants.{Remove, Make}
 use Rattle.rhs_actions.specs.EffectPlaces.{AreWithin, IsWithin, change_of, changes_in, effect_in}
@@ -41,6 +42,12 @@ is_gone-values tag values others places = ap (λ tags. list_any (λ gone. gone =
     same [] = refl
     same (Remove gone ∷ places) = ap (λ tags. gone ∷ tags) (same places)
     same (Make start size class ∷ places) = same places
+
+-- and neither does how many elements are made
+pub makes-values : (values others : List Value) (places : List Placed) → makes (changes_in values places) ≡ makes (changes_in others places)
+makes-values values others [] = refl
+makes-values values others (Remove gone ∷ places) = makes-values values others places
+makes-values values others (Make start size class ∷ places) = ap (λ n. n + 1) (makes-values values others places)
 
 -- values that stand behind a list: the values of an element that was made among them
 pub record IsBehind (values more after : List Value) (start : ℕ) : Type 0 where

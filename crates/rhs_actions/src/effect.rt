@@ -1,11 +1,12 @@
 //! What a firing asks for, in flat arrays: however many elements it makes, their values lie in one
 //! block, so that an effect which is filled again needs no block of its own.
 
-ghost use Rattle.std.specs.Prelude.{◌≡◌, ◌+◌, ◌≤◌, ◌<◌, ◌↔◌, [], ◌∷◌, ◌++◌, IfErr, IsTrue, Ok, Err, OnOk, Some, drop, length, replicate, slice_get, take, vec_len};
+ghost use Rattle.std.specs.Prelude.{◌≡◌, ℕ, ◌+◌, ◌≤◌, ◌<◌, ◌↔◌, [], ◌∷◌, ◌++◌, IfErr, IsTrue, Ok, Err, OnOk, Some, drop, length, replicate, slice_get, take, vec_len};
 ghost use Rattle.rule_base.specs.Value.{nil};
 ghost use Rattle.rule_base.specs.Views.{element_in};
 ghost use Rattle.rule_base.specs.Term.{after_sets};
 ghost use Rattle.rule_base.specs.Effect.{is_gone, modified};
+ghost use Rattle.rule_base.specs.Step.{born};
 ghost use Rattle.rhs_actions.specs.EffectPlaces.{IsWithin, change_of, changes_in};
 ghost use Rattle.rhs_actions.specs.ChangeViews.{change_in};
 ghost use Rattle.rhs_actions.specs.Refusals.{Tells};
@@ -95,6 +96,13 @@ impl Effect {
         ensures { IsTrue result ↔ (self.now.changes ≡ []) }
     {
         self.changes.is_empty()
+    }
+
+    /// How many of them are makes, so many tags the commit gives. It looks at one change after another.
+    pub fn makes(&self) -> usize
+        ensures { (next : ℕ) → length (born next self.now.changes) ≡ result }
+    {
+        makes(self.changes.as_slice())
     }
 
     /// The change at a place that counts from 0.
@@ -214,6 +222,19 @@ fn view(values: &[Value], placed: Placed) -> ChangeView<'_>
             values: &values[start..start + size],
         },
     }
+}
+
+/// How many of the changes are makes.
+fn makes(changes: &[Placed]) -> usize
+    ensures { (next : ℕ) → length (born next (changes_in [] changes.now)) ≡ result }
+{
+    let mut count = 0;
+    for change in changes {
+        if let Placed::Make { .. } = change {
+            count += 1;
+        }
+    }
+    count
 }
 
 /// Whether the changes remove the element with this tag.
