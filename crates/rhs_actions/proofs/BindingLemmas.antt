@@ -1,5 +1,5 @@
 -- Binding what condition elements bind that are known to accept their elements.
-use Rattle.std.proofs.Common.{◌≡◌, ℕ, ◌+◌, ◌<◌, List, [], ◌∷◌, Bool, true, false, ◌==◌, Option, Some, None, IsSome, option_and_then, option_map, drop, get_or, length, slice_get, suc, zero, refl, sym, ◌∙◌, ap, arith, subst}
+use Rattle.std.proofs.Common.{◌≡◌, ℕ, ◌+◌, ◌<◌, List, Bool, true, false, ◌==◌, Option, Some, None, IsSome, option_and_then, option_map, drop, get_or, length, slice_get, refl, ◌∙◌, ap, subst}
 use Rattle.rule_base.specs.declared.value.Value.{Value}
 use Rattle.rule_base.specs.declared.element.Element.{Element}
 use Rattle.rule_base.specs.declared.condition.Test.{Test}

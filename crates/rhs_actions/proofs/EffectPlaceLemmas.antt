@@ -1,12 +1,11 @@
 -- Effects in flat arrays: values that are added hide none, and a change that is added lies behind the others.
-use Rattle.std.proofs.Common.{◌≡◌, ℕ, ◌+◌, ◌-◌, ◌≤◌, ◌==◌, List, [], ◌∷◌, ◌++◌, Bool, Result, Ok, length, map, drop, take, replicate, refl, sym, ◌∙◌, ap, subst, arith, append_assoc, length-append}
-use Rattle.std.specs.List.{AllByRecursion, filter_map, list_any}
+use Rattle.std.proofs.Common.{◌≡◌, ℕ, ◌+◌, ◌-◌, ◌≤◌, ◌==◌, List, [], ◌∷◌, ◌++◌, Bool, Result, Ok, length, drop, take, replicate, refl, sym, ◌∙◌, ap, subst, arith, append_assoc}
+use Rattle.std.specs.List.{list_any}
 use Rattle.std.proofs.lemmas.List.{drop-append-le, length-drop, map-append, take-append-drop, take-append-le, take_all}
 use Rattle.std.proofs.Math.Seq.{drop-append_seam, take-append_seam}
 use Rattle.rule_base.specs.declared.value.Value.{Value}
 use Rattle.rule_base.specs.declared.element.Element.{Element}
 use Rattle.rule_base.specs.declared.action.Term.{Term}
-use Rattle.rule_base.specs.declared.change.Change.{Change}
 use Rattle.rule_base.specs.declared.change.Change.TheVariants as change
 use Rattle.rule_base.specs.declared.change.Piece.{Piece}
 use Rattle.rule_base.specs.declared.entry.FaultCause.{FaultCause}

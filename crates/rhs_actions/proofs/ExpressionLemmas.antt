@@ -1,5 +1,5 @@
 -- How an expression is evaluated from its last operand on.
-use Rattle.std.proofs.Common.{◌≡◌, ℕ, ◌+◌, ◌<◌, List, [], ◌∷◌, ◌++◌, length, Option, None, Some, Result, Ok, Err, ℤ, map, drop, get_or, suc, zero, arith, refl, sym, ◌∙◌, ap}
+use Rattle.std.proofs.Common.{◌≡◌, ℕ, ◌+◌, ◌<◌, List, [], ◌∷◌, length, Option, Some, Result, Ok, Err, ℤ, map, drop, get_or, suc, zero, arith, refl, sym, ◌∙◌, ap}
 use Rattle.rule_base.specs.declared.expression.Op.{Op}
 use Rattle.rule_base.specs.declared.expression.Operand.{Operand}
 use Rattle.rule_base.specs.declared.expression.Expr.{Expr}

@@ -1,5 +1,5 @@
 -- How an effect lies in flat arrays: where the elements that it makes lie in a list of values.
-use Rattle.std.specs.Prelude.{ℕ, ◌+◌, ◌≤◌, List, Bool, drop, length, map, take}
+use Rattle.std.specs.Prelude.{◌+◌, ◌≤◌, List, Bool, drop, length, map, take}
 use Rattle.std.specs.List.{AllByRecursion}
 use Rattle.rule_base.specs.declared.value.Value.{Value}
 use Rattle.rule_base.specs.declared.change.Change.{Change}

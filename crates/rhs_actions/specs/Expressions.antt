@@ -1,5 +1,5 @@
 -- How an expression is evaluated from its last operand on.
-use Rattle.std.specs.Prelude.{ℤ, List, [], ◌∷◌, Option, None, Some, Result}
+use Rattle.std.specs.Prelude.{ℤ, Option, None, Some, Result}
 use Rattle.rule_base.specs.declared.value.Value.{Value}
 use Rattle.rule_base.specs.declared.expression.Op.{Op}
 use Rattle.rule_base.specs.declared.expression.Operand.{Operand}

@@ -1,5 +1,5 @@
 -- What a call that fires a rule answers.
-use Rattle.std.specs.Prelude.{◌≡◌, List, Err}
+use Rattle.std.specs.Prelude.{◌≡◌, List}
 use Rattle.rule_base.specs.declared.element.Element.{Element}
 use Rattle.rule_base.specs.declared.program.Rule.{Rule}
 use Rattle.rhs_actions.specs.declared.refusal.FireRefusal.{FireRefusal}

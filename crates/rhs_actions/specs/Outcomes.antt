@@ -1,5 +1,5 @@
 -- What a firing comes to: its effect, or the action that fails.
-use Rattle.std.specs.Prelude.{◌≡◌, ℕ, List, [], Result, Ok, Err, get_or}
+use Rattle.std.specs.Prelude.{◌≡◌, ℕ, List, [], Ok, Err, get_or}
 use Rattle.rule_base.specs.declared.element.Element.{Element}
 use Rattle.rule_base.specs.declared.program.Rule.{Rule}
 use Rattle.rule_base.specs.declared.program.Program.{Program}

@@ -1,5 +1,5 @@
 -- One condition element further.
-use Rattle.std.proofs.Common.{◌≡◌, IsSome, drop, length, ap, ◌∙◌, rules, subst}
+use Rattle.std.proofs.Common.{IsSome, drop, ◌∙◌, rules, subst}
 use Rattle.rhs_actions.proofs.BindingLemmas.{matched_next}
 use Rattle.rhs_actions.proofs.bindings.begin.Goals as goal
 

@@ -1,5 +1,5 @@
 -- The condition element accepts the next element.
-use Rattle.std.proofs.Common.{◌≡◌, Some, drop, ap, ◌∙◌, rules, subst}
+use Rattle.std.proofs.Common.{◌≡◌, Some, ap, ◌∙◌, rules}
 use Rattle.rule_base.specs.Views.{element_in}
 use Rattle.rule_base.specs.Acceptance.{after_tests}
 use Rattle.rhs_actions.proofs.BindingLemmas.{after_next, holds_next}

@@ -1,5 +1,5 @@
 -- All makes have been counted.
-use Rattle.std.proofs.Common.{◌≡◌, ◌+◌, [], drop, ap, arith, ◌∙◌}
+use Rattle.std.proofs.Common.{◌≡◌, [], drop, ap, arith, ◌∙◌}
 use Rattle.std.proofs.Math.ListN.{drop_of_length-le}
 use Rattle.rule_base.proofs.EffectLemmas.{length-born, makes}
 use Rattle.rhs_actions.specs.EffectPlaces.{changes_in}

@@ -1,5 +1,5 @@
 -- One operand more has been evaluated.
-use Rattle.std.proofs.Common.{◌≡◌, ◌+◌, ◌-◌, ◌<◌, length, drop, Ok, ap, arith, rules, subst, sym, ◌∙◌, w64, to_z, of_z, SFits}
+use Rattle.std.proofs.Common.{◌≡◌, ◌+◌, ◌-◌, drop, Ok, ap, arith, rules, subst, sym, ◌∙◌, w64, to_z, of_z, SFits}
 use Rattle.std.proofs.lemmas.Int.{to_z-of_z}
 use Rattle.std.proofs.lemmas.Result.{err_from_is_err_and}
 use Rattle.rhs_actions.proofs.ExpressionLemmas.{GivesAll, GivesAll-next, fails, gives_all}

@@ -1,5 +1,5 @@
 -- What is gone doesn't depend on the values.
-use Rattle.std.proofs.Common.{◌≡◌, [], ap, ◌∙◌, subst}
+use Rattle.std.proofs.Common.{[], ap, ◌∙◌}
 use Rattle.rule_base.specs.Effect.{Effect, is_gone}
 use Rattle.rhs_actions.specs.EffectPlaces.{changes_in}
 use Rattle.rhs_actions.proofs.EffectPlaceLemmas.{is_gone-values}

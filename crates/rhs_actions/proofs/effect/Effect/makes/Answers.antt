@@ -1,8 +1,8 @@
 -- How many elements are made doesn't depend on the values.
-use Rattle.std.proofs.Common.{◌≡◌, [], ap, length, sym, ◌∙◌}
+use Rattle.std.proofs.Common.{[], ap, length, sym, ◌∙◌}
 use Rattle.rule_base.specs.Effect.{Effect}
 use Rattle.rule_base.specs.Step.{born}
-use Rattle.rule_base.proofs.EffectLemmas.{length-born, makes}
+use Rattle.rule_base.proofs.EffectLemmas.{length-born}
 use Rattle.rhs_actions.specs.EffectPlaces.{changes_in}
 use Rattle.rhs_actions.proofs.EffectPlaceLemmas.{makes-values}
 use Rattle.rhs_actions.proofs.effect.Effect.makes.Goals as goal
