@@ -1,5 +1,5 @@
 -- How far a right-hand side has come, and what each kind of action makes of it.
-use Rattle.std.specs.Prelude.{ℕ, List, [], ◌∷◌, ◌++◌, true, false, Result, Ok, fold, replicate, slice_get}
+use Rattle.std.specs.Prelude.{ℕ, List, [], ◌∷◌, ◌++◌, true, Result, Ok, fold, replicate, slice_get}
 use Rattle.rule_base.specs.declared.element.Element.{Element}
 use Rattle.rule_base.specs.declared.action.Term.{Term}
 use Rattle.rule_base.specs.declared.action.Item.{Item}
@@ -10,10 +10,6 @@ use Rattle.rule_base.specs.Value.{nil}
 use Rattle.rule_base.specs.Bindings.{Bindings, bound}
 use Rattle.rule_base.specs.Term.{after_sets, item_pieces, term_value}
 use Rattle.rule_base.specs.Effect.{Effect, Progress, after_remove, changing}
-
--- nothing done
-abbrev pub no_effect : Effect
-no_effect = record { changes = []; pieces = []; halts = false }
 
 -- a right-hand side that has come to these bindings and has done this
 abbrev pub reached : Bindings → Effect → Progress

@@ -1,7 +1,7 @@
 -- what the public calls promise
 pub mod Operators
 pub mod Refusals
-pub mod ChangeViews
+pub mod EffectViews
 pub mod Outcomes
 pub mod Fire
 -- what lies in fields

@@ -8,9 +8,9 @@ ghost use Rattle.rule_base.specs.Term.{after_sets};
 ghost use Rattle.rule_base.specs.Effect.{is_gone, modified};
 ghost use Rattle.rule_base.specs.Step.{born};
 ghost use Rattle.rhs_actions.specs.EffectPlaces.{IsWithin, change_of, changes_in};
-ghost use Rattle.rhs_actions.specs.ChangeViews.{change_in};
+ghost use Rattle.rhs_actions.specs.EffectViews.{change_in, no_effect};
 ghost use Rattle.rhs_actions.specs.Refusals.{Tells};
-ghost use Rattle.rhs_actions.specs.Acting.{made, no_effect, reached, removed, halted, written};
+ghost use Rattle.rhs_actions.specs.Acting.{made, reached, removed, halted, written};
 
 use crate::refusal::Stop;
 use crate::terms::{add_pieces, set_all};
@@ -224,7 +224,7 @@ fn view(values: &[Value], placed: Placed) -> ChangeView<'_>
     }
 }
 
-/// How many of the changes are makes.
+/// How many of the changes are makes, whatever values they have.
 fn makes(changes: &[Placed]) -> usize
     ensures { (next : ℕ) → length (born next (changes_in [] changes.now)) ≡ result }
 {
@@ -237,7 +237,7 @@ fn makes(changes: &[Placed]) -> usize
     count
 }
 
-/// Whether the changes remove the element with this tag.
+/// Whether the changes remove the element with this tag, whatever values the others have.
 fn is_gone(tag: u64, changes: &[Placed]) -> bool
     ensures { result ≡ is_gone tag (changes_in [] changes.now) }
 {

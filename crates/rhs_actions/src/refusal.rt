@@ -12,7 +12,7 @@ use std::alloc::{AllocError, AllocFailed};
 
 /// Why a right-hand side has no effect: this action, which counts from 1, is the first that fails, or
 /// memory is wanting.
-#[derive(Clone, Copy, Debug, PartialEq, Eq)]
+#[derive(Clone, Copy)]
 pub enum EffectRefusal {
     Failed { action: u32, cause: FaultCause },
     OutOfMemory,
