@@ -12,7 +12,7 @@ computed-returns-in_err-joined t c =
     let gives = subst (λ n. GivesAll c.args.binds.now (drop n rest) c.loop-at.right) behind c.loop-at.invariant in
     let p = err_from_is_err_and c.from_residual.result c.from_residual.ensures.1 in
     rw (p.1, p.2)
-    (sym (fails c.args.binds.now c.args.expression.now rest (c.loop-at.at - 1) c.index-rest-at.result c.loop-at.right _ c.as_slice-rest.ensures (omega (arith, c.loop-at-test.true, c.loop-at.auto.at)) c.index-rest-at.is gives
+    (sym (fails c.args.binds.now c.args.expression.now rest (c.loop-at.at - 1) c.index-rest-at.result c.loop-at.right _ c.as_slice-rest.ensures (search rules) c.index-rest-at.is gives
     (sym c.in_err-joined.was ∙ c.joined.ensures)))
 
 pub computed-loop-at-preserved : goal.computed-loop-at-preserved
@@ -22,7 +22,7 @@ computed-loop-at-preserved t c =
     let gives = subst (λ n. GivesAll c.args.binds.now (drop n rest) c.loop-at.right) behind c.loop-at.invariant in
     let z = c.in_ok-joined.field-0 in
     let fits : SFits w64 z = search rules in
-    GivesAll-next c.args.binds.now rest (c.loop-at.at - 1) c.index-rest-at.result c.loop-at.right (to_z w64 (of_z w64 z)) (omega (arith, c.loop-at-test.true, c.loop-at.auto.at)) c.index-rest-at.is gives
+    GivesAll-next c.args.binds.now rest (c.loop-at.at - 1) c.index-rest-at.result c.loop-at.right (to_z w64 (of_z w64 z)) (search rules) c.index-rest-at.is gives
     (ap Ok (to_z-of_z w64 z fits) ∙ sym c.in_ok-joined.was ∙ c.joined.ensures)
 
 pub computed-returns : goal.computed-returns
