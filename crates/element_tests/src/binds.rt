@@ -1,6 +1,6 @@
 //! The row of bindings: which variables of a rule have a value.
 
-ghost use Rattle.std.specs.Prelude.{◌≡◌, ◌<◌, IfOk, length};
+ghost use Rattle.std.specs.Prelude.{◌≡◌, ◌<◌, IfOk, OnOk, length};
 ghost use Rattle.rule_base.specs.Bindings.{no_bindings, binding_of, bound};
 ghost use Rattle.element_tests.specs.Unbinding.{unset};
 
@@ -32,6 +32,15 @@ impl Binds {
         Ok(Binds { values })
     }
 
+    /// Makes this a row for so many variables, none of which has a value. It takes memory only where the
+    /// row has never had so many.
+    pub fn renew(&mut self, vars: u32) -> Result<(), OutOfMemory>
+        ensures { OnOk result (self.new ≡ no_bindings vars) }
+    {
+        self.values.clear();
+        self.values.resize(vars as usize, None)
+    }
+
     /// Takes the value of each variable away.
     pub fn clear(&mut self)
         ensures { self.new ≡ no_bindings (length self.old) }
@@ -56,7 +65,7 @@ impl Binds {
     }
 
     /// Gives the variable this value.
-    pub(crate) fn set(&mut self, var: u32, value: Value)
+    pub fn set(&mut self, var: u32, value: Value)
         requires { var < length self.old }
         ensures { self.new ≡ bound self.old var value }
     {

@@ -1,0 +1,3 @@
+pub mod ExpressionLemmas
+pub mod EffectPlaceLemmas
+pub mod BindingLemmas

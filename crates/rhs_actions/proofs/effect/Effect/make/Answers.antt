@@ -1,0 +1,18 @@
+-- The element lies behind the others.
+use Rattle.std.proofs.Common.{◌≡◌, Ok, rules, subst}
+use Rattle.rhs_actions.specs.EffectPlaces.{effect_in}
+use Rattle.rhs_actions.specs.Acting.{made, reached}
+use Rattle.rhs_actions.proofs.EffectPlaceLemmas.{made-is}
+use Rattle.rhs_actions.proofs.effect.Effect.make.Goals as goal
+
+pub returns-clause-ok : goal.returns-clause-ok
+returns-clause-ok c =
+    let inside = c.self.inside in
+    let values = c.set_last.new.values.items in
+    let changes = c.push.new.self.items in
+    let b = c.args.binds.now in
+    let new = effect_in values changes inside.pieces.items inside.halts in
+    let set = c.in_ok-set_last.ensures in
+    subst (λ done. made c.args.class c.args.size c.args.sets.now (reached b done) ≡ Ok (reached b new)) c.self.view_is
+    (made-is b c.args.sets.now inside.values.items c.add_nils.new.values.items values inside.changes.items changes inside.pieces.items inside.halts c.len-start.result _ c.args.class c.args.size
+    c.self.invariant c.in_ok-add_nils.ensures.added (search rules) (search rules) set.ok set.before (search rules) c.in_ok-push.ensures.items)
