@@ -1,0 +1,2 @@
+-- the layout of pieces, a page as it grows
+pub mod Page
