@@ -1,0 +1,2 @@
+-- lists one behind another
+pub mod CutLemmas

@@ -1,2 +1,4 @@
 -- the layout of pieces, a page as it grows
 pub mod Page
+-- lists one behind another
+pub mod Lists

@@ -2,6 +2,7 @@
 //! knows no match and no firing.
 #![tactic(auto)]
 
+mod lists;
 mod page;
 
 pub use page::lay_out;
