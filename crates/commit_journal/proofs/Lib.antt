@@ -1,2 +1,4 @@
 -- lists one behind another
 pub mod CutLemmas
+-- the elements that a run makes
+pub mod NumberedLemmas

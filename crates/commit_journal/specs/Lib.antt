@@ -2,3 +2,4 @@
 pub mod Page
 -- lists one behind another
 pub mod Lists
+pub mod Newborns

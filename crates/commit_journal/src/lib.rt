@@ -3,6 +3,7 @@
 #![tactic(auto)]
 
 mod lists;
+mod newborns;
 mod page;
 
 pub use page::lay_out;

@@ -1,0 +1,39 @@
+-- Elements with consecutive tags: how many there are, each of them, and one more.
+use Rattle.std.proofs.Common.{◌≡◌, ℕ, ◌+◌, ◌<◌, List, [], ◌∷◌, ◌++◌, Some, length, slice_get, zero, suc, refl, sym, ◌∙◌, ap, arith}
+use Rattle.rule_base.specs.declared.value.Value.{Value}
+use Rattle.rule_base.specs.declared.element.Element.{Element}
+use Rattle.std.proofs.lemmas.List.Sums.{sum_by-cons}
+use Rattle.commit_journal.specs.Newborns.{numbered, value_count}
+
+-- the element with this tag, this class and these values
+abbrev pub element : ℕ → ℕ → List Value → Element
+element tag class values = record { tag = tag; class = class; values = values }
+
+pub length-numbered : (tag : ℕ) (classes : List ℕ) (lists : List (List Value)) → length lists ≡ length classes → length (numbered tag classes lists) ≡ length classes
+length-numbered tag [] lists same = refl
+length-numbered tag (class ∷ classes) [] same = absurd (omega (arith, same))
+length-numbered tag (class ∷ classes) (values ∷ lists) same = ap suc (length-numbered (tag + 1) classes lists (omega (arith, same)))
+
+pub slice_get-numbered : (tag : ℕ) (classes : List ℕ) (lists : List (List Value)) (place class : ℕ) (values : List Value) → slice_get classes place ≡ Some class → slice_get lists place ≡ Some values → slice_get (numbered tag classes lists) place ≡ Some (element (tag + place) class values)
+slice_get-numbered tag [] lists place class values of_class of_values = absurd (let wrong : ⊥ = cc in wrong)
+slice_get-numbered tag (c ∷ classes) [] place class values of_class of_values = absurd (let wrong : ⊥ = cc in wrong)
+slice_get-numbered tag (c ∷ classes) (vs ∷ lists) zero class values of_class of_values =
+    let same_class : c ≡ class = cc in
+    let same_values : vs ≡ values = cc in
+    let same_tag : tag ≡ tag + 0 = omega arith in
+    ap (λ t. Some (element t c vs)) same_tag ∙ ap (λ d. Some (element (tag + 0) d vs)) same_class ∙ ap (λ v. Some (element (tag + 0) class v)) same_values
+slice_get-numbered tag (c ∷ classes) (vs ∷ lists) (suc place) class values of_class of_values =
+    let same_tag : tag + 1 + place ≡ tag + suc place = omega arith in
+    slice_get-numbered (tag + 1) classes lists place class values of_class of_values ∙ ap (λ t. Some (element t class values)) same_tag
+
+pub numbered-push : (tag : ℕ) (classes : List ℕ) (lists : List (List Value)) (class : ℕ) (values : List Value) → length lists ≡ length classes → numbered tag (classes ++ class ∷ []) (lists ++ values ∷ []) ≡ numbered tag classes lists ++ element (tag + length classes) class values ∷ []
+numbered-push tag [] [] class values same = let same_tag : tag ≡ tag + 0 = omega arith in ap (λ t. element t class values ∷ []) same_tag
+numbered-push tag [] (vs ∷ lists) class values same = absurd (omega (arith, same))
+numbered-push tag (c ∷ classes) [] class values same = absurd (omega (arith, same))
+numbered-push tag (c ∷ classes) (vs ∷ lists) class values same =
+    let same_tag : tag + 1 + length classes ≡ tag + suc (length classes) = omega arith in
+    ap (λ rest. element tag c vs ∷ rest) (numbered-push (tag + 1) classes lists class values (omega (arith, same)) ∙ ap (λ t. numbered (tag + 1) classes lists ++ element t class values ∷ []) same_tag)
+
+-- the values of an element and of those behind it
+pub value_count-cons : (e : Element) (elements : List Element) → value_count (e ∷ elements) ≡ length e.values + value_count elements
+value_count-cons e elements = sum_by-cons (λ (x : Element). length x.values) e elements
