@@ -2,3 +2,6 @@
 pub mod CutLemmas
 -- the elements that a run makes
 pub mod NumberedLemmas
+-- the entries of a journal
+pub mod BesideLemmas
+pub mod EntryLemmas

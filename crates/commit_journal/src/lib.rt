@@ -2,8 +2,13 @@
 //! knows no match and no firing.
 #![tactic(auto)]
 
+mod firing;
+mod journal;
 mod lists;
 mod newborns;
 mod page;
+mod room;
 
+pub use journal::Journal;
 pub use page::lay_out;
+pub use room::Room;

@@ -1,0 +1,12 @@
+//! What a journal keeps of a firing beside its lists.
+
+ghost use Rattle.std.specs.Prelude.{◌≡◌, ◌≤◌, ◌∷◌, length, slice_index};
+ghost use Rattle.commit_journal.specs.Entries.{born_ends};
+
+/// A firing's rule, where the elements that it made end among all that were made, and whether it halted.
+#[derive(Clone, Copy, Debug)]
+pub struct Firing {
+    pub rule: u32,
+    pub born: u32,
+    pub halts: bool,
+}

@@ -1,0 +1,83 @@
+//! The journal of a run: one entry for each firing, in flat arrays. Taking an entry in needs no block of
+//! its own, and none at all where there is room.
+
+ghost use Rattle.std.specs.Prelude.{◌≡◌, ◌+◌, ◌^◌, ◌<◌, ◌≤◌, ◌↔◌, [], ◌∷◌, ◌++◌, IfOk, IsTrue, OnOk, OnErr, Some, length, option_map, slice_get, slice_index};
+ghost use Rattle.rule_base.specs.Memory.{element_at, tags_of};
+ghost use Rattle.rule_base.specs.Opening.{AreConsecutive};
+ghost use Rattle.rule_base.specs.Views.{element_in};
+ghost use Rattle.commit_journal.specs.Entries.{born_in, entry_with, pieces_of};
+ghost use Rattle.commit_journal.specs.Room.{FitsIn, larger_room, room_for, room_without};
+
+use crate::Room;
+use crate::firing::Firing;
+use crate::lists::Lists;
+use crate::newborns::Newborns;
+use ops_text::OutOfMemory;
+use rule_base::{Elements, Piece};
+use std::alloc::Global;
+use std::marker::Model;
+
+/// Entries in the order of their firings.
+#[derive(Drop)]
+pub struct Journal {
+    firings: Vec<Firing>,
+    /// The tags that each firing's choice has.
+    tags: Lists<u64>,
+    /// The tags that each firing took away.
+    gone: Lists<u64>,
+    /// The elements of all firings.
+    newborns: Newborns,
+    /// What each firing wrote.
+    pieces: Lists<Piece>,
+    room: Room,
+}
+
+impl Model for Journal {
+    ghost use Rattle.std.specs.Prelude.{◌-◌, vec_capacity, vec_len};
+    ghost use Rattle.commit_journal.specs.Entries.{Recorded, entries_of};
+    ghost use Rattle.commit_journal.specs.Flat.{AreParallel, HaveRoom};
+
+    ghost Value = { Recorded };
+
+    ghost view = { λ s. record { entries = entries_of s.firings.items s.tags.lists s.gone.lists s.newborns.elements s.pieces.lists; next = s.newborns.next; room = s.room } };
+
+    ghost invariant = { λ s. AreParallel s.firings.items s.tags s.gone s.newborns s.pieces × HaveRoom s.room (vec_capacity s.firings - vec_len s.firings) s.tags s.gone s.newborns s.pieces };
+}
+
+impl Journal {
+    /// A journal with no entry, in which the first element to be born has this tag. It takes no memory.
+    pub fn new(alloc: Global, next: u64) -> Journal
+        ensures entries { result.entries ≡ [] }
+        ensures next { result.next ≡ next }
+    {
+        Journal {
+            firings: Vec::new(alloc),
+            tags: Lists::new(alloc),
+            gone: Lists::new(alloc),
+            newborns: Newborns::new(alloc, next),
+            pieces: Lists::new(alloc),
+            room: Room::none(),
+        }
+    }
+
+    /// How many entries there are.
+    pub fn len(&self) -> usize
+        ensures { result ≡ length self.now.entries }
+    {
+        self.firings.len()
+    }
+
+    /// The tag of the next element to be born.
+    pub fn next(&self) -> u64
+        ensures { result ≡ self.now.next }
+    {
+        self.newborns.next()
+    }
+
+    /// The pieces of all entries as one list. They lie so, which is why it takes no time.
+    pub fn pieces(&self) -> &[Piece]
+        ensures { result.now ≡ pieces_of self.now.entries }
+    {
+        self.pieces.items()
+    }
+}
