@@ -5,3 +5,4 @@ pub mod NumberedLemmas
 -- the entries of a journal
 pub mod BesideLemmas
 pub mod EntryLemmas
+pub mod RoomLemmas

@@ -80,4 +80,59 @@ impl Journal {
     {
         self.pieces.items()
     }
+
+    /// Sees to it that there is at least this room. The entries stay, and room never falls. It also
+    /// fails where tags, or places of born elements, would run out.
+    pub fn reserve(&mut self, room: Room) -> Result<(), OutOfMemory>
+        ensures entries { (self.new.entries ≡ self.old.entries) × (self.new.next ≡ self.old.next) }
+        ensures ok { OnOk result (self.new.room ≡ larger_room self.old.room room) }
+        ensures err { OnErr result (self.new.room ≡ self.old.room) }
+    {
+        if !self.newborns.has_numbers_for(room.elements) {
+            return Err(OutOfMemory);
+        }
+        self.firings.reserve(room.entries)?;
+        self.tags.reserve(room.entries, room.tags)?;
+        self.gone.reserve(room.entries, room.gone)?;
+        self.pieces.reserve(room.entries, room.pieces)?;
+        self.newborns.reserve(room.elements, room.values)?;
+        self.room = self.room.larger(room);
+        Ok(())
+    }
+
+    /// Adds an entry. It takes no memory.
+    pub fn push(
+        &mut self,
+        rule: u32,
+        tags: &[u64],
+        gone: &[u64],
+        born: &Elements,
+        pieces: &[Piece],
+        halts: bool,
+    )
+        requires tags { AreConsecutive self.old.next (tags_of born.now) }
+        requires room { FitsIn (room_for tags.now gone.now born.now pieces.now) self.old.room }
+        ensures entries { self.new.entries ≡ self.old.entries ++ entry_with rule tags.now gone.now born.now pieces.now halts ∷ [] }
+        ensures next { self.new.next ≡ self.old.next + length born.now }
+        ensures room { self.new.room ≡ room_without self.old.room (room_for tags.now gone.now born.now pieces.now) }
+    {
+        self.tags.push(tags);
+        self.gone.push(gone);
+        self.pieces.push(pieces);
+        let values = self.newborns.extend(born);
+        let born_end = self.newborns.len() as u32;
+        self.firings.push_reserved(Firing {
+            rule,
+            born: born_end,
+            halts,
+        });
+        self.room = self.room.without(Room {
+            entries: 1,
+            tags: tags.len(),
+            gone: gone.len(),
+            elements: born.len(),
+            values,
+            pieces: pieces.len(),
+        });
+    }
 }

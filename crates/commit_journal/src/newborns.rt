@@ -1,7 +1,7 @@
 //! The elements that a run makes, in flat arrays. Their tags are consecutive, so each is found by its
 //! tag at once.
 
-ghost use Rattle.std.specs.Prelude.{◌≡◌, ◌+◌, ◌^◌, ◌<◌, ◌≤◌, [], ◌∷◌, ◌++◌, OnOk, Some, length, option_map, slice_get};
+ghost use Rattle.std.specs.Prelude.{◌≡◌, ◌+◌, ◌^◌, ◌<◌, ◌≤◌, [], ◌∷◌, ◌++◌, ◌↔◌, IsTrue, OnOk, Some, length, option_map, slice_get};
 ghost use Rattle.rule_base.specs.Memory.{element_at, tags_of};
 ghost use Rattle.rule_base.specs.Opening.{AreConsecutive};
 ghost use Rattle.rule_base.specs.Views.{element_in};
@@ -58,6 +58,15 @@ impl Newborns {
         ensures { result ≡ self.now.next }
     {
         self.first + self.classes.len() as u64
+    }
+
+    /// Whether so many more elements get tags of 64 bits and places of 32.
+    pub fn has_numbers_for(&self, elements: usize) -> bool
+        ensures { IsTrue result ↔ ((self.now.next + elements < 2 ^ 64) × (length self.now.elements + elements < 2 ^ 32)) }
+    {
+        let places = u32::MAX as usize;
+        let len = self.len();
+        elements <= places && len <= places - elements && self.next() <= u64::MAX - elements as u64
     }
 
     /// The element at a place that counts from 0.
