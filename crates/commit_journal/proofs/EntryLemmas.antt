@@ -1,9 +1,10 @@
 -- The entries that flat arrays keep: their number, one more, each of them, and what all have of one kind.
-use Rattle.std.proofs.Common.{◌≡◌, ℕ, ◌+◌, ◌<◌, List, [], ◌∷◌, ◌++◌, Some, Option, length, drop, map, option_map, slice_get, take, refl, sym, ◌∙◌, ap, subst, arith}
+use Rattle.std.proofs.Common.{◌≡◌, ℕ, ◌+◌, ◌-◌, ◌<◌, ◌≤◌, List, [], ◌∷◌, ◌++◌, Some, Option, length, drop, map, option_map, slice_get, take, zero, suc, refl, sym, ◌∙◌, ap, subst, arith}
 use Rattle.std.specs.List.{filter_map, flat_map, zip}
 use Rattle.std.proofs.lemmas.List.{length-map, map-append}
 use Rattle.std.proofs.lemmas.List.Folds.{flat_map-map}
-use Rattle.std.proofs.lemmas.Option.{slice_get-map}
+use Rattle.std.specs.Prelude.{slice_index, slice_range}
+use Rattle.std.proofs.lemmas.Option.{slice_get-map, slice_get_within}
 use Rattle.rule_base.specs.declared.element.Element.{Element}
 use Rattle.rule_base.specs.declared.change.Piece.{Piece}
 use Rattle.rule_base.specs.declared.change.Tagged.{Tagged}
@@ -11,8 +12,8 @@ use Rattle.rule_base.specs.declared.change.Tagged.TheVariants.{Gone, Born}
 use Rattle.rule_base.specs.declared.entry.Entry.{Entry}
 use Rattle.commit_journal.specs.declared.firing.Firing.{Firing}
 use Rattle.commit_journal.specs.Lists.{RiseTo, cut}
-use Rattle.commit_journal.specs.Entries.{Parts, born_by, born_ends, born_in, entries_of, entry_of, parts_of, pieces_of}
-use Rattle.commit_journal.proofs.CutLemmas.{cut-push, flat_map-cut, length-cut_from}
+use Rattle.commit_journal.specs.Entries.{Parts, born_by, born_ends, born_in, entries_of, entry_of, entry_with, parts_of, pieces_of}
+use Rattle.commit_journal.proofs.CutLemmas.{RiseTo-at, cut-push, flat_map-cut, length-cut_from, slice_get-cut_from}
 use Rattle.commit_journal.proofs.BesideLemmas.{flat_map-firsts, flat_map-same, flat_map-seconds, length-beside, slice_get-zip, zip-push}
 
 length-born : (firings : List Firing) (born : List Element) → length (cut (born_ends firings) born) ≡ length firings
@@ -88,3 +89,29 @@ born_in-entries_of firings tags gone born pieces of_tags of_gone of_pieces rise 
     ∙ flat_map-seconds (λ (q : List Element × List Piece). q.0) gone (zip lists pieces) (with_born firings gone born pieces of_gone of_pieces)
     ∙ flat_map-firsts (λ (list : List Element). list) lists pieces (with_pieces firings born pieces of_pieces)
     ∙ flat_map-cut (born_ends firings) born rise
+
+-- where the elements of a firing end, and where they begin
+pub slice_index-born_ends : (firings : List Firing) (at : ℕ) (f : Firing) → slice_get firings at ≡ Some f → slice_index (born_ends firings) at ≡ f.born
+slice_index-born_ends [] at f is = absurd (let wrong : ⊥ = cc in wrong)
+slice_index-born_ends (g ∷ firings) zero f is = let same : g ≡ f = cc in ap (λ (x : Firing). x.born) same
+slice_index-born_ends (g ∷ firings) (suc at) f is = slice_index-born_ends firings at f is
+
+-- an entry as a view shows it, whose elements lie between two places
+pub slice_get-entry : (firings : List Firing) (tags gone : List (List ℕ)) (born : List Element) (pieces : List (List Piece)) (at from : ℕ) (f : Firing) (t g : List ℕ) (p : List Piece) → slice_get firings at ≡ Some f → slice_get tags at ≡ Some t → slice_get gone at ≡ Some g → slice_get pieces at ≡ Some p → from ≡ slice_index (0 ∷ born_ends firings) at → slice_get (entries_of firings tags gone born pieces) at ≡ Some (entry_with f.rule t g (take (f.born - from) (drop from born)) p f.halts)
+slice_get-entry firings tags gone born pieces at from f t g p of_f of_t of_g of_p begin =
+    let here : at < length (born_ends firings) = subst (λ n. at < n) (sym (length-map firings (λ (x : Firing). x.born))) (slice_get_within firings at f of_f) in
+    let of_b : slice_get (cut (born_ends firings) born) at ≡ Some (slice_range born from f.born) =
+    slice_get-cut_from 0 (born_ends firings) born at here
+    ∙ ap (λ n. Some (slice_range born n (slice_index (born_ends firings) at))) (sym begin)
+    ∙ ap (λ n. Some (slice_range born from n)) (slice_index-born_ends firings at f of_f) in
+    slice_get-entries_of firings tags gone born pieces at f t g (slice_range born from f.born) p of_f of_t of_g of_b of_p
+
+-- a place among the entries is one among the firings
+pub within_firings : (firings : List Firing) (tags gone : List (List ℕ)) (born : List Element) (pieces : List (List Piece)) (at : ℕ) → length tags ≡ length firings → length gone ≡ length firings → length pieces ≡ length firings → at < length (entries_of firings tags gone born pieces) → at < length firings
+within_firings firings tags gone born pieces at of_tags of_gone of_pieces within = subst (λ n. at < n) (length-entries_of firings tags gone born pieces of_tags of_gone of_pieces) within
+
+-- the elements of a firing end behind where they begin
+pub born_ends-rise : (firings : List Firing) (last at from : ℕ) (f : Firing) → RiseTo 0 (born_ends firings) last → slice_get firings at ≡ Some f → from ≡ slice_index (0 ∷ born_ends firings) at → from ≤ f.born
+born_ends-rise firings last at from f rise is begin =
+    let here : at < length (born_ends firings) = subst (λ n. at < n) (sym (length-map firings (λ (x : Firing). x.born))) (slice_get_within firings at f is) in
+    omega (arith, (RiseTo-at 0 (born_ends firings) last at rise here).0, begin, slice_index-born_ends firings at f is)

@@ -8,3 +8,4 @@ pub mod Room
 -- the journal: its entries, and the arrays that keep them
 pub mod Entries
 pub mod Flat
+pub mod EntryViews

@@ -10,3 +10,15 @@ pub struct Firing {
     pub born: u32,
     pub halts: bool,
 }
+
+/// Where the elements begin that the firing at this place made.
+pub fn born_before(firings: &[Firing], place: usize) -> usize
+    requires { place ≤ length firings.now }
+    ensures { result ≡ slice_index (0 ∷ born_ends firings.now) place }
+{
+    if place == 0 {
+        0
+    } else {
+        firings[place - 1].born as usize
+    }
+}

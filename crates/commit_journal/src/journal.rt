@@ -6,12 +6,13 @@ ghost use Rattle.rule_base.specs.Memory.{element_at, tags_of};
 ghost use Rattle.rule_base.specs.Opening.{AreConsecutive};
 ghost use Rattle.rule_base.specs.Views.{element_in};
 ghost use Rattle.commit_journal.specs.Entries.{born_in, entry_with, pieces_of};
+ghost use Rattle.commit_journal.specs.EntryViews.{entry_in};
 ghost use Rattle.commit_journal.specs.Room.{FitsIn, larger_room, room_for, room_without};
 
-use crate::Room;
-use crate::firing::Firing;
+use crate::firing::{Firing, born_before};
 use crate::lists::Lists;
 use crate::newborns::Newborns;
+use crate::{EntryView, Room};
 use ops_text::OutOfMemory;
 use rule_base::{Elements, Piece};
 use std::alloc::Global;
@@ -72,6 +73,25 @@ impl Journal {
         ensures { result ≡ self.now.next }
     {
         self.newborns.next()
+    }
+
+    /// The entry at a place that counts from 0.
+    pub fn entry(&self, place: usize) -> EntryView<'_>
+        requires { place < length self.now.entries }
+        ensures { slice_get self.now.entries place ≡ Some (entry_in result) }
+    {
+        let firing = self.firings[place];
+        let from = born_before(self.firings.as_slice(), place);
+        EntryView {
+            rule: firing.rule,
+            halts: firing.halts,
+            tags: self.tags.at(place),
+            gone: self.gone.at(place),
+            pieces: self.pieces.at(place),
+            newborns: &self.newborns,
+            from,
+            count: firing.born as usize - from,
+        }
     }
 
     /// The pieces of all entries as one list. They lie so, which is why it takes no time.

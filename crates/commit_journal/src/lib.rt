@@ -2,6 +2,7 @@
 //! knows no match and no firing.
 #![tactic(auto)]
 
+mod entry_view;
 mod firing;
 mod journal;
 mod lists;
@@ -9,6 +10,7 @@ mod newborns;
 mod page;
 mod room;
 
+pub use entry_view::EntryView;
 pub use journal::Journal;
 pub use page::lay_out;
 pub use room::Room;

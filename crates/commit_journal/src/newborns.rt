@@ -81,6 +81,16 @@ impl Newborns {
         }
     }
 
+    /// The element that is so many places behind a place.
+    pub fn behind(&self, place: usize, number: usize) -> ElementView<'_>
+        requires { place + number < length self.now.elements }
+        ensures { slice_get self.now.elements (place + number) ≡ Some (element_in result) }
+    {
+        let len = self.len();
+        prove!(place + number < len);
+        self.at(place + number)
+    }
+
     /// Room for so many more elements, and for so many values of theirs. The elements stay, and room
     /// never falls.
     pub fn reserve(&mut self, elements: usize, values: usize) -> Result<(), OutOfMemory>
