@@ -6,3 +6,5 @@ pub mod NumberedLemmas
 pub mod BesideLemmas
 pub mod EntryLemmas
 pub mod RoomLemmas
+-- the text of a journal
+pub mod JournalTextLemmas

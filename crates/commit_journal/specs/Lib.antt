@@ -9,3 +9,5 @@ pub mod Room
 pub mod Entries
 pub mod Flat
 pub mod EntryViews
+-- its text
+pub mod JournalText

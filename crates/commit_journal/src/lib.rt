@@ -9,8 +9,10 @@ mod lists;
 mod newborns;
 mod page;
 mod room;
+mod text;
 
 pub use entry_view::EntryView;
 pub use journal::Journal;
 pub use page::lay_out;
 pub use room::Room;
+pub use text::journal_text;
