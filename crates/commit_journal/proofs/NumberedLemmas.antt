@@ -1,8 +1,9 @@
 -- Elements with consecutive tags: how many there are, each of them, and one more.
-use Rattle.std.proofs.Common.{◌≡◌, ℕ, ◌+◌, ◌<◌, List, [], ◌∷◌, ◌++◌, Some, length, slice_get, zero, suc, refl, sym, ◌∙◌, ap, arith}
+use Rattle.std.proofs.Common.{◌≡◌, ℕ, ◌+◌, ◌<◌, ◌≤◌, List, [], ◌∷◌, ◌++◌, Some, None, true, false, eqb, rules, subst, tests, length, slice_get, zero, suc, refl, sym, ◌∙◌, ap, arith}
 use Rattle.rule_base.specs.declared.value.Value.{Value}
 use Rattle.rule_base.specs.declared.element.Element.{Element}
 use Rattle.std.proofs.lemmas.List.Sums.{sum_by-cons}
+use Rattle.rule_base.specs.Memory.{element_at}
 use Rattle.commit_journal.specs.Newborns.{numbered, value_count}
 
 -- the element with this tag, this class and these values
@@ -37,3 +38,31 @@ numbered-push tag (c ∷ classes) (vs ∷ lists) class values same =
 -- the values of an element and of those behind it
 pub value_count-cons : (e : Element) (elements : List Element) → value_count (e ∷ elements) ≡ length e.values + value_count elements
 value_count-cons e elements = sum_by-cons (λ (x : Element). length x.values) e elements
+
+-- each element is found at its tag
+pub element_at-numbered : (first : ℕ) (classes : List ℕ) (lists : List (List Value)) (place : ℕ) (e : Element) → slice_get (numbered first classes lists) place ≡ Some e → element_at (numbered first classes lists) (first + place) ≡ Some e
+element_at-numbered first [] lists place e is = absurd (let wrong : ⊥ = cc in wrong)
+element_at-numbered first (class ∷ classes) [] place e is = absurd (let wrong : ⊥ = cc in wrong)
+element_at-numbered first (class ∷ classes) (values ∷ lists) zero e is =
+    let same : eqb first (first + 0) ≡ true = search (rules, tests) in
+    rw same is
+element_at-numbered first (class ∷ classes) (values ∷ lists) (suc place) e is =
+    let differs : eqb first (first + suc place) ≡ false = search (rules, tests) in
+    let next : first + 1 + place ≡ first + suc place = omega arith in
+    let rest : element_at (numbered (first + 1) classes lists) (first + suc place) ≡ Some e = subst (λ tag. element_at (numbered (first + 1) classes lists) tag ≡ Some e) next (element_at-numbered (first + 1) classes lists place e is) in
+    rw differs rest
+
+-- and none at a tag before the first or behind the last
+pub element_at-before : (first : ℕ) (classes : List ℕ) (lists : List (List Value)) (tag : ℕ) → tag < first → element_at (numbered first classes lists) tag ≡ None
+element_at-before first [] lists tag before = refl
+element_at-before first (class ∷ classes) [] tag before = refl
+element_at-before first (class ∷ classes) (values ∷ lists) tag before =
+    let differs : eqb first tag ≡ false = search (rules, tests) in
+    rw differs (element_at-before (first + 1) classes lists tag (omega (arith, before)))
+
+pub element_at-behind : (first : ℕ) (classes : List ℕ) (lists : List (List Value)) (tag : ℕ) → first + length classes ≤ tag → element_at (numbered first classes lists) tag ≡ None
+element_at-behind first [] lists tag behind = refl
+element_at-behind first (class ∷ classes) [] tag behind = refl
+element_at-behind first (class ∷ classes) (values ∷ lists) tag behind =
+    let differs : eqb first tag ≡ false = search (rules, tests) in
+    rw differs (element_at-behind (first + 1) classes lists tag (omega (arith, behind)))

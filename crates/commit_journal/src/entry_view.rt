@@ -1,11 +1,14 @@
 //! An entry of a journal where it lies.
 
-ghost use Rattle.std.specs.Prelude.{◌≡◌, ◌<◌, IfOk, Some, length, slice_get};
+ghost use Rattle.std.specs.Prelude.{◌≡◌, ◌<◌, ◌++◌, IfOk, OnOk, Some, length, map, slice_get};
 ghost use Rattle.rule_base.specs.Views.{element_in};
+ghost use Rattle.rule_base.specs.declared.change.Tagged.TheVariants.{Gone, Born};
 ghost use Rattle.commit_journal.specs.EntryViews.{born_of, entry_in};
 
 use crate::newborns::Newborns;
-use rule_base::{ElementView, Piece};
+use ops_text::{OutOfMemory, Sequence};
+use rule_base::{Choice, ElementView, Entry, Piece, Tagged};
+use std::alloc::Global;
 
 /// An entry with its lists where they lie. The elements that it made are reached by their number.
 #[derive(Clone, Copy)]
@@ -39,4 +42,46 @@ impl<'a> EntryView<'a> {
     {
         self.newborns.behind(self.from, number)
     }
+
+    /// The entry as a value of its own, in time that grows with its parts.
+    pub fn to_entry(self, alloc: Global) -> Result<Entry, OutOfMemory>
+        ensures { IfOk result (λ entry. entry ≡ entry_in self.entry) }
+    {
+        let mut changes = Sequence::new(alloc);
+        put_gone(self.gone, &mut changes)?;
+        put_born(alloc, self, &mut changes)?;
+        let tags = Sequence::from_vec(Vec::from_slice(alloc, self.tags)?);
+        let pieces = Sequence::from_vec(Vec::from_slice(alloc, self.pieces)?);
+        Ok(Entry {
+            choice: Choice {
+                rule: self.rule,
+                tags,
+            },
+            changes,
+            pieces,
+            halts: self.halts,
+        })
+    }
+}
+
+fn put_gone(gone: &[u64], changes: &mut Sequence<Tagged>) -> Result<(), OutOfMemory>
+    ensures { OnOk result (changes.new ≡ changes.old ++ map Gone gone.now) }
+{
+    for tag in gone {
+        changes.push(Tagged::Gone(*tag))?;
+    }
+    Ok(())
+}
+
+fn put_born(
+    alloc: Global,
+    view: EntryView<'_>,
+    changes: &mut Sequence<Tagged>,
+) -> Result<(), OutOfMemory>
+    ensures { OnOk result (changes.new ≡ changes.old ++ map Born (born_of view.entry)) }
+{
+    for number in 0..view.born_len() {
+        changes.push(Tagged::Born(view.born(number).to_element(alloc)?))?;
+    }
+    Ok(())
 }

@@ -13,8 +13,8 @@ use crate::firing::{Firing, born_before};
 use crate::lists::Lists;
 use crate::newborns::Newborns;
 use crate::{EntryView, Room};
-use ops_text::OutOfMemory;
-use rule_base::{Elements, Piece};
+use ops_text::{OutOfMemory, Sequence};
+use rule_base::{ElementView, Elements, Entry, Piece};
 use std::alloc::Global;
 use std::marker::Model;
 
@@ -99,6 +99,25 @@ impl Journal {
         ensures { result.now ≡ pieces_of self.now.entries }
     {
         self.pieces.items()
+    }
+
+    /// The element with this tag, if it was born in one of the entries. It takes the same time however
+    /// many there are.
+    pub fn born(&self, tag: u64) -> Option<ElementView<'_>>
+        ensures { option_map element_in result ≡ element_at (born_in self.now.entries) tag }
+    {
+        self.newborns.with_tag(tag)
+    }
+
+    /// The entries, each as a value of its own.
+    pub fn to_entries(&self, alloc: Global) -> Result<Sequence<Entry>, OutOfMemory>
+        ensures { IfOk result (λ entries. entries ≡ self.now.entries) }
+    {
+        let mut entries = Sequence::new(alloc);
+        for place in 0..self.len() {
+            entries.push(self.entry(place).to_entry(alloc)?)?;
+        }
+        Ok(entries)
     }
 
     /// Sees to it that there is at least this room. The entries stay, and room never falls. It also

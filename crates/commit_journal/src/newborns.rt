@@ -91,6 +91,21 @@ impl Newborns {
         self.at(place + number)
     }
 
+    /// The element with this tag, if it is one of these. It takes the same time however many there are.
+    pub fn with_tag(&self, tag: u64) -> Option<ElementView<'_>>
+        ensures { option_map element_in result ≡ element_at self.now.elements tag }
+    {
+        if tag < self.first {
+            return None;
+        }
+        let place = tag - self.first;
+        if place < self.classes.len() as u64 {
+            Some(self.at(place as usize))
+        } else {
+            None
+        }
+    }
+
     /// Room for so many more elements, and for so many values of theirs. The elements stay, and room
     /// never falls.
     pub fn reserve(&mut self, elements: usize, values: usize) -> Result<(), OutOfMemory>
