@@ -1,6 +1,6 @@
 //! Lists one behind another in one block, so that taking one in needs no block of its own.
 
-ghost use Rattle.std.specs.Prelude.{◌≡◌, ◌+◌, ◌-◌, ◌≤◌, ◌<◌, [], ◌∷◌, ◌++◌, IfOk, OnOk, Some, length, slice_get, slice_index, slice_range};
+ghost use Rattle.std.specs.Prelude.{◌≡◌, ◌+◌, ◌-◌, ◌≤◌, ◌<◌, [], ◌∷◌, ◌++◌, IfOk, OnOk, Some, drop, length, map, slice_get, slice_index, slice_range, take};
 ghost use Rattle.std.specs.List.{flat_map};
 
 use ops_text::OutOfMemory;
@@ -76,6 +76,20 @@ impl<T> Lists<T> {
 }
 
 impl<T: Copy> Lists<T> {
+    /// Lists equal to so many of these, from a place on. What stands before them costs nothing.
+    pub fn range(&self, alloc: Global, from: usize, count: usize) -> Result<Lists<T>, OutOfMemory>
+        requires { from + count ≤ length self.now.lists }
+        ensures { IfOk result (λ some. some.lists ≡ take count (drop from self.now.lists)) }
+    {
+        let ends = self.ends.as_slice();
+        let begin = begin_of(ends, from);
+        let end = begin_of(ends, from + count);
+        Ok(Lists {
+            ends: places_before(alloc, part(ends, from, from + count), begin)?,
+            items: Vec::from_slice(alloc, part(self.items.as_slice(), begin, end))?,
+        })
+    }
+
     /// Adds a list at the end. It takes no memory.
     pub fn push(&mut self, items: &[T])
         requires room { (1 ≤ self.old.more_lists) × (length items.now ≤ self.old.more_items) }
@@ -105,4 +119,15 @@ pub fn begin_of(ends: &[u32], place: usize) -> usize
     } else {
         ends[place - 1] as usize
     }
+}
+
+/// The places, each so much before.
+fn places_before(alloc: Global, places: &[u32], by: usize) -> Result<Vec<u32>, OutOfMemory>
+    ensures { IfOk result (λ before. before.items ≡ map (λ place. place - by) places.now) }
+{
+    let mut before = Vec::new(alloc);
+    for place in places {
+        before.push((*place as usize).saturating_sub(by) as u32)?;
+    }
+    Ok(before)
 }
