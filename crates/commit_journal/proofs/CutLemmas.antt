@@ -76,7 +76,7 @@ range-range items begin end last first second =
     ∙ sym (take-add (end - begin) (last - end) (drop begin items))
     ∙ ap (λ n. take n (drop begin items)) size
 
-flat_map-cut_from : {X : Type 0} (begin : ℕ) (ends : List ℕ) (last : ℕ) (items : List X) → RiseTo begin ends last → flat_map (λ (list : List X). list) (cut_from begin ends items) ≡ slice_range items begin last
+pub flat_map-cut_from : {X : Type 0} (begin : ℕ) (ends : List ℕ) (last : ℕ) (items : List X) → RiseTo begin ends last → flat_map (λ (list : List X). list) (cut_from begin ends items) ≡ slice_range items begin last
 flat_map-cut_from begin [] last items rise = let none : 0 ≡ last - begin = omega (arith, rise) in ap (λ n. take n (drop begin items)) none
 flat_map-cut_from begin (end ∷ ends) last items rise =
     ap (λ rest. slice_range items begin end ++ rest) (flat_map-cut_from end ends last items rise.1) ∙ range-range items begin end last rise.0 (RiseTo-le end ends last rise.1)
@@ -95,7 +95,7 @@ cut_from-take begin ends items zero = refl
 cut_from-take begin [] items (suc n) = refl
 cut_from-take begin (end ∷ ends) items (suc n) = ap (λ rest. slice_range items begin end ∷ rest) (cut_from-take end ends items n)
 
-cut_from-drop : {X : Type 0} (begin : ℕ) (ends : List ℕ) (items : List X) (n : ℕ) → n ≤ length ends → cut_from (slice_index (begin ∷ ends) n) (drop n ends) items ≡ drop n (cut_from begin ends items)
+pub cut_from-drop : {X : Type 0} (begin : ℕ) (ends : List ℕ) (items : List X) (n : ℕ) → n ≤ length ends → cut_from (slice_index (begin ∷ ends) n) (drop n ends) items ≡ drop n (cut_from begin ends items)
 cut_from-drop begin ends items zero within = refl
 cut_from-drop begin [] items (suc n) within = absurd (omega (arith, within))
 cut_from-drop begin (end ∷ ends) items (suc n) within = cut_from-drop end ends items n (omega (arith, within))
@@ -105,7 +105,7 @@ RiseTo-take begin ends last zero rise within = refl
 RiseTo-take begin [] last (suc n) rise within = absurd (omega (arith, within))
 RiseTo-take begin (end ∷ ends) last (suc n) rise within = (rise.0, RiseTo-take end ends last n rise.1 (omega (arith, within)))
 
-RiseTo-drop : (begin : ℕ) (ends : List ℕ) (last n : ℕ) → RiseTo begin ends last → n ≤ length ends → RiseTo (slice_index (begin ∷ ends) n) (drop n ends) last
+pub RiseTo-drop : (begin : ℕ) (ends : List ℕ) (last n : ℕ) → RiseTo begin ends last → n ≤ length ends → RiseTo (slice_index (begin ∷ ends) n) (drop n ends) last
 RiseTo-drop begin ends last zero rise within = rise
 RiseTo-drop begin [] last (suc n) rise within = absurd (omega (arith, within))
 RiseTo-drop begin (end ∷ ends) last (suc n) rise within = RiseTo-drop end ends last n rise.1 (omega (arith, within))

@@ -1,5 +1,5 @@
 -- Elements with consecutive tags: how many there are, each of them, and one more.
-use Rattle.std.proofs.Common.{◌≡◌, ℕ, ◌+◌, ◌<◌, ◌≤◌, List, [], ◌∷◌, ◌++◌, Some, None, true, false, eqb, rules, subst, tests, length, slice_get, zero, suc, refl, sym, ◌∙◌, ap, arith}
+use Rattle.std.proofs.Common.{◌≡◌, ℕ, ◌+◌, ◌<◌, ◌≤◌, List, [], ◌∷◌, ◌++◌, Some, None, true, false, eqb, rules, subst, tests, length, drop, take, slice_get, zero, suc, refl, sym, ◌∙◌, ap, arith}
 use Rattle.rule_base.specs.declared.value.Value.{Value}
 use Rattle.rule_base.specs.declared.element.Element.{Element}
 use Rattle.std.proofs.lemmas.List.Sums.{sum_by-cons}
@@ -66,3 +66,25 @@ element_at-behind first (class ∷ classes) [] tag behind = refl
 element_at-behind first (class ∷ classes) (values ∷ lists) tag behind =
     let differs : eqb first tag ≡ false = search (rules, tests) in
     rw differs (element_at-behind (first + 1) classes lists tag (omega (arith, behind)))
+
+-- so many elements from a place on
+numbered-take : (first : ℕ) (classes : List ℕ) (lists : List (List Value)) (n : ℕ) → numbered first (take n classes) (take n lists) ≡ take n (numbered first classes lists)
+numbered-take first classes lists zero = refl
+numbered-take first [] lists (suc n) = refl
+numbered-take first (class ∷ classes) [] (suc n) = refl
+numbered-take first (class ∷ classes) (values ∷ lists) (suc n) = ap (λ rest. element first class values ∷ rest) (numbered-take (first + 1) classes lists n)
+
+numbered-none : (first : ℕ) (classes : List ℕ) → numbered first classes [] ≡ []
+numbered-none first [] = refl
+numbered-none first (class ∷ classes) = refl
+
+numbered-drop : (first : ℕ) (classes : List ℕ) (lists : List (List Value)) (n : ℕ) → numbered (first + n) (drop n classes) (drop n lists) ≡ drop n (numbered first classes lists)
+numbered-drop first classes lists zero = let same : first + 0 ≡ first = omega arith in ap (λ tag. numbered tag classes lists) same
+numbered-drop first [] lists (suc n) = refl
+numbered-drop first (class ∷ classes) [] (suc n) = numbered-none (first + suc n) (drop n classes)
+numbered-drop first (class ∷ classes) (values ∷ lists) (suc n) =
+    let same : first + suc n ≡ first + 1 + n = omega arith in
+    ap (λ tag. numbered tag (drop n classes) (drop n lists)) same ∙ numbered-drop (first + 1) classes lists n
+
+pub numbered-range : (first : ℕ) (classes : List ℕ) (lists : List (List Value)) (from count : ℕ) → numbered (first + from) (take count (drop from classes)) (take count (drop from lists)) ≡ take count (drop from (numbered first classes lists))
+numbered-range first classes lists from count = numbered-take (first + from) (drop from classes) (drop from lists) count ∙ ap (take count) (numbered-drop first classes lists from)

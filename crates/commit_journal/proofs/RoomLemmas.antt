@@ -1,5 +1,5 @@
 -- The room that is left once an entry is taken in.
-use Rattle.std.proofs.Common.{◌≡◌, ℕ, ◌+◌, ◌≤◌, arith, length}
+use Rattle.std.proofs.Common.{◌≡◌, ℕ, ◌+◌, ◌^◌, ◌<◌, ◌≤◌, ap, arith, length}
 use Rattle.rule_base.specs.declared.change.Piece.{Piece}
 use Rattle.commit_journal.specs.declared.room.Room.{Room}
 use Rattle.commit_journal.specs.Lists.{Kept}
@@ -21,3 +21,22 @@ HaveRoom-push room need firings firings' tags tags' gone gone' made made' pieces
   of_tags = omega (arith, had.of_tags, fits.elements, next);
   of_places = omega (arith, had.of_places, fits.elements, size);
 }
+
+-- each journal has no room at least
+pub HaveRoom-none : (room : Room) (firings : ℕ) (tags gone : Kept ℕ) (made : Made) (pieces : Kept Piece) → room ≡ record { entries = 0; tags = 0; gone = 0; elements = 0; values = 0; pieces = 0 } → made.next < 2 ^ 64 → length made.elements < 2 ^ 32 → HaveRoom room firings tags gone made pieces
+HaveRoom-none room firings tags gone made pieces none next few =
+    let no_entries : room.entries ≡ 0 = ap (λ (r : Room). r.entries) none in
+    let no_tags : room.tags ≡ 0 = ap (λ (r : Room). r.tags) none in
+    let no_gone : room.gone ≡ 0 = ap (λ (r : Room). r.gone) none in
+    let no_pieces : room.pieces ≡ 0 = ap (λ (r : Room). r.pieces) none in
+    let no_elements : room.elements ≡ 0 = ap (λ (r : Room). r.elements) none in
+    let no_values : room.values ≡ 0 = ap (λ (r : Room). r.values) none in
+    record {
+      for_entries = omega (arith, no_entries);
+      for_tags = (omega (arith, no_entries), omega (arith, no_tags));
+      for_gone = (omega (arith, no_entries), omega (arith, no_gone));
+      for_pieces = (omega (arith, no_entries), omega (arith, no_pieces));
+      for_born = (omega (arith, no_elements), omega (arith, no_values));
+      of_tags = omega (arith, no_elements, next);
+      of_places = omega (arith, no_elements, few);
+    }

@@ -1,5 +1,5 @@
 -- The entries of a journal, as its flat arrays keep them.
-use Rattle.std.specs.Prelude.{ℕ, List, ◌++◌, Bool, Option, Some, None, map}
+use Rattle.std.specs.Prelude.{ℕ, ◌-◌, List, ◌++◌, Bool, Option, Some, None, map}
 use Rattle.std.specs.List.{filter_map, flat_map, zip}
 use Rattle.rule_base.specs.declared.element.Element.{Element}
 use Rattle.rule_base.specs.declared.change.Piece.{Piece}
@@ -23,6 +23,10 @@ entry_with rule tags gone born pieces halts = record {
 -- where the elements that each firing made end
 abbrev pub born_ends : List Firing → List ℕ
 born_ends firings = map (λ (f : Firing). f.born) firings
+
+-- the firing, with the end of its elements so many places before
+abbrev pub firing_before : ℕ → Firing → Firing
+firing_before by firing = record firing { born = firing.born - by }
 
 -- a firing with its tags, then its removed tags, its born elements and its pieces
 abbrev pub Parts : Type 0

@@ -1,7 +1,7 @@
 //! The journal of a run: one entry for each firing, in flat arrays. Taking an entry in needs no block of
 //! its own, and none at all where there is room.
 
-ghost use Rattle.std.specs.Prelude.{◌≡◌, ◌+◌, ◌^◌, ◌<◌, ◌≤◌, ◌↔◌, [], ◌∷◌, ◌++◌, IfOk, IsTrue, OnOk, OnErr, Some, length, option_map, slice_get, slice_index};
+ghost use Rattle.std.specs.Prelude.{◌≡◌, ◌+◌, ◌^◌, ◌<◌, ◌≤◌, ◌↔◌, [], ◌∷◌, ◌++◌, IfOk, IsTrue, OnOk, OnErr, Some, drop, length, option_map, slice_get, take};
 ghost use Rattle.rule_base.specs.Memory.{element_at, tags_of};
 ghost use Rattle.rule_base.specs.Opening.{AreConsecutive};
 ghost use Rattle.rule_base.specs.Views.{element_in};
@@ -9,8 +9,8 @@ ghost use Rattle.commit_journal.specs.Entries.{born_in, entry_with, pieces_of};
 ghost use Rattle.commit_journal.specs.EntryViews.{entry_in};
 ghost use Rattle.commit_journal.specs.Room.{FitsIn, larger_room, room_for, room_without};
 
-use crate::firing::{Firing, born_before};
-use crate::lists::Lists;
+use crate::firing::{Firing, born_before, firings_before};
+use crate::lists::{Lists, part};
 use crate::newborns::Newborns;
 use crate::{EntryView, Room};
 use ops_text::{OutOfMemory, Sequence};
@@ -118,6 +118,38 @@ impl Journal {
             entries.push(self.entry(place).to_entry(alloc)?)?;
         }
         Ok(entries)
+    }
+
+    /// A journal of its own with so many of the entries, from a place on, or with all from there where
+    /// there are fewer. It is copied by ranges, so what stands before them costs nothing.
+    pub fn stretch(&self, alloc: Global, from: u64, most: u32) -> Result<Journal, OutOfMemory>
+        ensures entries { IfOk result (λ some. some.entries ≡ take most (drop from self.now.entries)) }
+
+        // Elements that are born behind it have the tags that go on from there.
+        ensures next { IfOk result (λ some. some.next + length (born_in (drop most (drop from self.now.entries))) ≡ self.now.next) }
+    {
+        let len = self.len();
+        let from = from.min(len as u64) as usize;
+        let count = (most as usize).min(len - from);
+        self.range(alloc, from, count)
+    }
+
+    fn range(&self, alloc: Global, from: usize, count: usize) -> Result<Journal, OutOfMemory>
+        requires { from + count ≤ length self.now.entries }
+        ensures entries { IfOk result (λ some. some.entries ≡ take count (drop from self.now.entries)) }
+        ensures next { IfOk result (λ some. some.next + length (born_in (drop (from + count) self.now.entries)) ≡ self.now.next) }
+    {
+        let firings = self.firings.as_slice();
+        let begin = born_before(firings, from);
+        let end = born_before(firings, from + count);
+        Ok(Journal {
+            firings: firings_before(alloc, part(firings, from, from + count), begin)?,
+            tags: self.tags.range(alloc, from, count)?,
+            gone: self.gone.range(alloc, from, count)?,
+            newborns: self.newborns.range(alloc, begin, end - begin)?,
+            pieces: self.pieces.range(alloc, from, count)?,
+            room: Room::none(),
+        })
     }
 
     /// Sees to it that there is at least this room. The entries stay, and room never falls. It also

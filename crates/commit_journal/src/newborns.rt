@@ -1,13 +1,13 @@
 //! The elements that a run makes, in flat arrays. Their tags are consecutive, so each is found by its
 //! tag at once.
 
-ghost use Rattle.std.specs.Prelude.{◌≡◌, ◌+◌, ◌^◌, ◌<◌, ◌≤◌, [], ◌∷◌, ◌++◌, ◌↔◌, IsTrue, OnOk, Some, length, option_map, slice_get};
+ghost use Rattle.std.specs.Prelude.{◌≡◌, ◌+◌, ◌^◌, ◌<◌, ◌≤◌, [], ◌∷◌, ◌++◌, ◌↔◌, IfOk, IsTrue, OnOk, Some, drop, length, option_map, slice_get, take};
 ghost use Rattle.rule_base.specs.Memory.{element_at, tags_of};
 ghost use Rattle.rule_base.specs.Opening.{AreConsecutive};
 ghost use Rattle.rule_base.specs.Views.{element_in};
 ghost use Rattle.commit_journal.specs.Newborns.{value_count};
 
-use crate::lists::Lists;
+use crate::lists::{Lists, part};
 use ops_text::OutOfMemory;
 use rule_base::{ElementView, Elements, Value};
 use std::alloc::Global;
@@ -148,5 +148,19 @@ impl Newborns {
             count += element.values.len();
         }
         count
+    }
+
+    /// Elements equal to so many of these, from a place on. What stands before them costs nothing.
+    pub fn range(&self, alloc: Global, from: usize, count: usize) -> Result<Newborns, OutOfMemory>
+        requires { from + count ≤ length self.now.elements }
+        ensures elements { IfOk result (λ some. some.elements ≡ take count (drop from self.now.elements)) }
+        ensures next { IfOk result (λ some. some.next + length (drop (from + count) self.now.elements) ≡ self.now.next) }
+    {
+        let classes = part(self.classes.as_slice(), from, from + count);
+        Ok(Newborns {
+            first: self.first + from as u64,
+            classes: Vec::from_slice(alloc, classes)?,
+            values: self.values.range(alloc, from, count)?,
+        })
     }
 }
