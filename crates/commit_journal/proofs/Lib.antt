@@ -1,0 +1,10 @@
+-- lists one behind another
+pub mod CutLemmas
+-- the elements that a run makes
+pub mod NumberedLemmas
+-- the entries of a journal
+pub mod BesideLemmas
+pub mod EntryLemmas
+pub mod RoomLemmas
+-- the text of a journal
+pub mod JournalTextLemmas

@@ -1,0 +1,42 @@
+-- The room that is left once an entry is taken in.
+use Rattle.std.proofs.Common.{◌≡◌, ℕ, ◌+◌, ◌^◌, ◌<◌, ◌≤◌, ap, arith, length}
+use Rattle.rule_base.specs.declared.change.Piece.{Piece}
+use Rattle.commit_journal.specs.declared.room.Room.{Room}
+use Rattle.commit_journal.specs.Lists.{Kept}
+use Rattle.commit_journal.specs.Newborns.{Made}
+use Rattle.commit_journal.specs.Flat.{HaveRoom}
+use Rattle.commit_journal.specs.Room.{FitsIn, room_without}
+
+-- lists have less room by one list with so many items at most
+abbrev pub HasLeft : {A : Type 0} → Kept A → Kept A → ℕ → Type 0
+HasLeft old new items = (old.more_lists ≤ new.more_lists + 1) × (old.more_items ≤ new.more_items + items)
+
+pub HaveRoom-push : (room need : Room) (firings firings' : ℕ) (tags tags' gone gone' : Kept ℕ) (made made' : Made) (pieces pieces' : Kept Piece) → HaveRoom room firings tags gone made pieces → FitsIn need room → need.entries ≡ 1 → firings ≤ firings' + 1 → HasLeft tags tags' need.tags → HasLeft gone gone' need.gone → HasLeft pieces pieces' need.pieces → (made.more_elements ≤ made'.more_elements + need.elements) × (made.more_values ≤ made'.more_values + need.values) → made'.next ≡ made.next + need.elements → length made'.elements ≡ length made.elements + need.elements → HaveRoom (room_without room need) firings' tags' gone' made' pieces'
+HaveRoom-push room need firings firings' tags tags' gone gone' made made' pieces pieces' had fits one of_firings of_tags of_gone of_pieces of_made next size = record {
+  for_entries = omega (arith, had.for_entries, fits.entries, one, of_firings);
+  for_tags = (omega (arith, had.for_tags.0, fits.entries, one, of_tags.0), omega (arith, had.for_tags.1, fits.tags, of_tags.1));
+  for_gone = (omega (arith, had.for_gone.0, fits.entries, one, of_gone.0), omega (arith, had.for_gone.1, fits.gone, of_gone.1));
+  for_pieces = (omega (arith, had.for_pieces.0, fits.entries, one, of_pieces.0), omega (arith, had.for_pieces.1, fits.pieces, of_pieces.1));
+  for_born = (omega (arith, had.for_born.0, fits.elements, of_made.0), omega (arith, had.for_born.1, fits.values, of_made.1));
+  of_tags = omega (arith, had.of_tags, fits.elements, next);
+  of_places = omega (arith, had.of_places, fits.elements, size);
+}
+
+-- each journal has no room at least
+pub HaveRoom-none : (room : Room) (firings : ℕ) (tags gone : Kept ℕ) (made : Made) (pieces : Kept Piece) → room ≡ record { entries = 0; tags = 0; gone = 0; elements = 0; values = 0; pieces = 0 } → made.next < 2 ^ 64 → length made.elements < 2 ^ 32 → HaveRoom room firings tags gone made pieces
+HaveRoom-none room firings tags gone made pieces none next few =
+    let no_entries : room.entries ≡ 0 = ap (λ (r : Room). r.entries) none in
+    let no_tags : room.tags ≡ 0 = ap (λ (r : Room). r.tags) none in
+    let no_gone : room.gone ≡ 0 = ap (λ (r : Room). r.gone) none in
+    let no_pieces : room.pieces ≡ 0 = ap (λ (r : Room). r.pieces) none in
+    let no_elements : room.elements ≡ 0 = ap (λ (r : Room). r.elements) none in
+    let no_values : room.values ≡ 0 = ap (λ (r : Room). r.values) none in
+    record {
+      for_entries = omega (arith, no_entries);
+      for_tags = (omega (arith, no_entries), omega (arith, no_tags));
+      for_gone = (omega (arith, no_entries), omega (arith, no_gone));
+      for_pieces = (omega (arith, no_entries), omega (arith, no_pieces));
+      for_born = (omega (arith, no_elements), omega (arith, no_values));
+      of_tags = omega (arith, no_elements, next);
+      of_places = omega (arith, no_elements, few);
+    }

@@ -1,0 +1,7 @@
+-- The values so far.
+use Rattle.std.proofs.Common.{◌≡◌, ◌+◌, drop}
+use Rattle.commit_journal.specs.Newborns.{value_count}
+use Rattle.commit_journal.proofs.room.value_count.Given as goal
+
+abbrev pub invariant-loop-at : goal.invariant-loop-at
+invariant-loop-at l = l.count + value_count (drop l.at l.elements) ≡ value_count l.elements

@@ -1,0 +1,18 @@
+//! The journal of a run as a flat store, the layout of what a run writes, and the journal's text. It
+//! knows no match and no firing.
+#![tactic(auto)]
+
+mod entry_view;
+mod firing;
+mod journal;
+mod lists;
+mod newborns;
+mod page;
+mod room;
+mod text;
+
+pub use entry_view::EntryView;
+pub use journal::Journal;
+pub use page::lay_out;
+pub use room::Room;
+pub use text::journal_text;

@@ -1,0 +1,98 @@
+//! Room: what a journal can take in without memory.
+
+ghost use Rattle.std.specs.Prelude.{◌≡◌, ◌+◌, IfOk, length};
+ghost use Rattle.commit_journal.specs.Room.{FitsIn, larger_room, room_for, room_without};
+ghost use Rattle.commit_journal.specs.Newborns.{value_count};
+
+use ops_text::OutOfMemory;
+use rule_base::{Elements, Piece};
+
+/// So many entries, and in them so many tags, removed tags, born elements, values of those, and pieces.
+#[derive(Clone, Copy, Debug)]
+pub struct Room {
+    pub entries: usize,
+    pub tags: usize,
+    pub gone: usize,
+    pub elements: usize,
+    pub values: usize,
+    pub pieces: usize,
+}
+
+impl Room {
+    /// No room.
+    pub fn none() -> Room
+        ensures { result ≡ record { entries = 0; tags = 0; gone = 0; elements = 0; values = 0; pieces = 0 } }
+    {
+        Room {
+            entries: 0,
+            tags: 0,
+            gone: 0,
+            elements: 0,
+            values: 0,
+            pieces: 0,
+        }
+    }
+
+    /// What an entry of these parts needs. It fails only where so much can't be counted.
+    pub fn for_entry(
+        tags: &[u64],
+        gone: &[u64],
+        born: &Elements,
+        pieces: &[Piece],
+    ) -> Result<Room, OutOfMemory>
+        ensures { IfOk result (λ room. room ≡ room_for tags.now gone.now born.now pieces.now) }
+    {
+        let values = value_count(born)?;
+        Ok(Room {
+            entries: 1,
+            tags: tags.len(),
+            gone: gone.len(),
+            elements: born.len(),
+            values,
+            pieces: pieces.len(),
+        })
+    }
+
+    /// What is left once so much is taken.
+    pub fn without(self, taken: Room) -> Room
+        requires { FitsIn taken self }
+        ensures { result ≡ room_without self taken }
+    {
+        Room {
+            entries: self.entries - taken.entries,
+            tags: self.tags - taken.tags,
+            gone: self.gone - taken.gone,
+            elements: self.elements - taken.elements,
+            values: self.values - taken.values,
+            pieces: self.pieces - taken.pieces,
+        }
+    }
+
+    /// What holds all that either holds.
+    pub fn larger(self, other: Room) -> Room
+        ensures { result ≡ larger_room self other }
+    {
+        Room {
+            entries: self.entries.max(other.entries),
+            tags: self.tags.max(other.tags),
+            gone: self.gone.max(other.gone),
+            elements: self.elements.max(other.elements),
+            values: self.values.max(other.values),
+            pieces: self.pieces.max(other.pieces),
+        }
+    }
+}
+
+/// How many values the elements have together.
+fn value_count(elements: &Elements) -> Result<usize, OutOfMemory>
+    ensures { IfOk result (λ count. count ≡ value_count elements.now) }
+{
+    let mut count: usize = 0;
+    for at in 0..elements.len() {
+        let Some(sum) = count.checked_add(elements.at(at).values.len()) else {
+            return Err(OutOfMemory);
+        };
+        count = sum;
+    }
+    Ok(count)
+}
