@@ -1,5 +1,5 @@
 -- Lawful cores: a core at its base is one and ready for a firing, and a firing keeps it so.
-use Rattle.std.proofs.Common.{◌≡◌, ℕ, ◌+◌, ◌^◌, ◌<◌, [], ◌∷◌, ◌++◌, length, true, Some, Ok, option_and_then, slice_get, refl, ◌∙◌, ap, arith}
+use Rattle.std.proofs.Common.{◌≡◌, ℕ, ◌+◌, ◌^◌, ◌<◌, ◌≤◌, [], ◌∷◌, ◌++◌, length, true, Some, Ok, option_and_then, slice_get, refl, ◌∙◌, ap, arith}
 use Rattle.std.proofs.lemmas.List.{length_push, map_push}
 use Rattle.rule_base.specs.declared.entry.Entry.{Entry}
 use Rattle.rule_base.specs.declared.instantiation.Choice.{Choice}
@@ -7,31 +7,26 @@ use Rattle.rule_base.specs.declared.program.Program.{Program}
 use Rattle.rule_base.specs.declared.program.Rule.{Rule}
 use Rattle.rule_base.specs.Memory.{HasSize, elements_at}
 use Rattle.rule_base.specs.declared.base.Base.{Base}
-use Rattle.rule_base.specs.Bindings.{no_bindings}
 use Rattle.rule_base.specs.Sound.{IsSound, IsSoundRule, sizes_of}
-use Rattle.rule_base.specs.Thin.{is_thin, is_thin_rule}
-use Rattle.rule_base.specs.Effect.{Effect, effect}
+use Rattle.rule_base.specs.Effect.{Effect}
 use Rattle.rule_base.specs.State.{State, choices_of, count, start}
-use Rattle.rule_base.specs.Step.{born, entry_of, step}
+use Rattle.rule_base.specs.Step.{born, effect_of, entry_of, step}
 use Rattle.rule_base.specs.Run.{run}
-use Rattle.rule_base.proofs.EachLemmas.{Each-list_all, Each-slice_get}
+use Rattle.rule_base.proofs.EachLemmas.{Each-slice_get}
 use Rattle.rule_base.proofs.EffectLemmas.{IsSizedEffect-sound, length-born}
 use Rattle.rule_base.specs.Base.{IsLawfulBase}
 use Rattle.rule_base.specs.Ending.{IsBudget}
 use Rattle.rule_base.proofs.BaseLemmas.{IsState-start}
 use Rattle.rule_base.proofs.RunLemmas.{refraction-step}
-use Rattle.rule_base.proofs.MachineLemmas.{Each-elements_at, IsKeepingStep-sound}
+use Rattle.rule_base.proofs.MachineLemmas.{Each-elements_at, HasRule-effect_of, IsKeepingStep-sound}
 use Rattle.rule_base.proofs.StepLemmas.{IsStep-from_step, run-append}
 use Rattle.firing_core.specs.CoreState.{CoreState}
 use Rattle.firing_core.specs.Lawful.{IsLawful}
 use Rattle.firing_core.specs.Kept.{IsKept}
-use Rattle.firing_core.specs.Matching.{MayMatch}
-use Rattle.firing_core.proofs.MatchingLemmas.{MayMatch-sound}
 
-pub IsKept-start : (program : Program) (base : Base) (budget : ℕ) → IsSound program → is_thin program ≡ true → IsLawfulBase program base → IsBudget budget → IsKept (record { program = program; base = base; budget = budget; state = start base })
-IsKept-start program base budget sound thin began few = record {
+pub IsKept-start : (program : Program) (base : Base) (budget : ℕ) → IsSound program → IsLawfulBase program base → IsBudget budget → IsKept (record { program = program; base = base; budget = budget; state = start base })
+IsKept-start program base budget sound began few = record {
   lawful = record { sound = sound; began = began; ran = refl; within = omega arith; few = few };
-  thin = thin;
   state = IsState-start program base began;
   next_is_low = omega (arith, began.few);
   refraction = refl;
@@ -56,26 +51,20 @@ IsKept-step k c after kept within steps =
         within = omega (arith, counted);
         few = lawful.few;
       };
-      thin = kept.thin;
       state = keeps.state;
       next_is_low = omega (arith, counted, keeps.near, kept.next_is_low);
       refraction = refraction-step k.program k.state c after steps ∙ kept.refraction;
     }
 
 -- the tags of the elements that a firing makes fit in 64 bits
-pub born_fit : (k : CoreState) (rule : Rule) (c : Choice) (done : Effect) → IsKept k → count k.state < k.budget → slice_get k.program.rules c.rule ≡ Some rule → effect rule (elements_at k.state.memory c.tags) ≡ Ok done → k.state.next + length (born k.state.next done.changes) < 2 ^ 64
-born_fit k rule c done kept within at is =
+pub born_fit : (k : CoreState) (c : Choice) (done : Effect) → IsKept k → count k.state < k.budget → effect_of k.program k.state.memory c ≡ Some (Ok done) → k.state.next + length (born k.state.next done.changes) < 2 ^ 64
+born_fit k c done kept within is =
     let sizes = sizes_of k.program.classes in
-    let sound : IsSoundRule sizes rule = Each-slice_get (IsSoundRule sizes) k.program.rules c.rule rule kept.lawful.sound.sound_rules at in
-    let sized = IsSizedEffect-sound sizes rule (elements_at k.state.memory c.tags) done sound (Each-elements_at (HasSize sizes) k.state.memory c.tags kept.state.elements.sized) is in
+    let has = HasRule-effect_of k.program k.state.memory c (Ok done) is in
+    let sound : IsSoundRule sizes has.rule = Each-slice_get (IsSoundRule sizes) k.program.rules c.rule has.rule kept.lawful.sound.sound_rules has.is in
+    let sized = IsSizedEffect-sound sizes has.rule (elements_at k.state.memory c.tags) done sound (Each-elements_at (HasSize sizes) k.state.memory c.tags kept.state.elements.sized) has.effect_is in
     omega (arith, length-born k.state.next done.changes, sized.few, sound.few_actions, kept.next_is_low, kept.lawful.few.few)
 
--- a rule of the program may be matched with elements of the memory
-pub rule_may_match : (k : CoreState) (rule : Rule) (c : Choice) → IsKept k → slice_get k.program.rules c.rule ≡ Some rule → MayMatch rule.conds (elements_at k.state.memory c.tags) (no_bindings rule.vars)
-rule_may_match k rule c kept at =
-    let sizes = sizes_of k.program.classes in
-    MayMatch-sound sizes rule (elements_at k.state.memory c.tags) (Each-slice_get (IsSoundRule sizes) k.program.rules c.rule rule kept.lawful.sound.sound_rules at) (Each-elements_at (HasSize sizes) k.state.memory c.tags kept.state.elements.sized)
-
--- each rule of a thin program is thin
-pub thin_rule : (program : Program) (number : ℕ) (rule : Rule) → is_thin program ≡ true → slice_get program.rules number ≡ Some rule → is_thin_rule rule ≡ true
-thin_rule program number rule thin at = Each-slice_get (λ (r : Rule). is_thin_rule r ≡ true) program.rules number rule (Each-list_all is_thin_rule program.rules thin) at
+-- a rule of the program has at most 64 actions
+pub few_actions : (k : CoreState) (rule : Rule) (c : Choice) → IsKept k → slice_get k.program.rules c.rule ≡ Some rule → length rule.actions ≤ 64
+few_actions k rule c kept at = (Each-slice_get (IsSoundRule (sizes_of k.program.classes)) k.program.rules c.rule rule kept.lawful.sound.sound_rules at).few_actions

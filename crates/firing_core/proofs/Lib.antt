@@ -5,7 +5,6 @@ pub mod AcceptanceLemmas
 pub mod FilterLemmas
 pub mod UnfiredLemmas
 -- the firing
-pub mod PieceLemmas
 pub mod FiringLemmas
 pub mod LawfulLemmas
 pub mod CommitLemmas

@@ -9,9 +9,9 @@ use Rattle.firing_core.specs.Kept.{IsKept}
 abbrev pub state_in : Inside → State
 state_in core = record {
   memory = core.memory;
-  next = core.next;
+  next = core.journal.next;
   fired = still_fired core.base.refraction core.program.value core.memory core.fired.items;
-  entries = core.entries.items;
+  entries = core.journal.entries;
   halted = core.halted;
   refraction = core.base.refraction;
 }

@@ -7,7 +7,5 @@ pub mod Matching
 pub mod Unfired
 pub mod Firing
 pub mod Turn
-pub mod Reached
-pub mod Plan
 pub mod Kept
 pub mod CoreFields

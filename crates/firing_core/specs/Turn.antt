@@ -1,13 +1,21 @@
 -- One turn of a run: a choice to fire, or the ending.
-use Rattle.std.specs.Prelude.{◌≡◌, ◌<◌, true}
+use Rattle.std.specs.Prelude.{◌≡◌, ◌<◌, true, Some, Ok}
+use Rattle.rule_base.specs.declared.instantiation.Choice.{Choice}
+use Rattle.rule_base.specs.Effect.{Effect}
 use Rattle.rule_base.specs.State.{count}
-use Rattle.rule_base.specs.Step.{may_fire}
+use Rattle.rule_base.specs.Step.{effect_of, may_fire}
 use Rattle.rule_base.specs.Ending.{IsEnding}
 use Rattle.firing_core.specs.CoreState.{CoreState}
 use Rattle.firing_core.specs.declared.finishing.Turn.{Turn}
 use Rattle.firing_core.specs.declared.finishing.Turn.TheVariants.{Fire, End}
 
--- what comes next for the core: a choice that it may fire within its budget, or an ending of its state
-abbrev pub IsTurn : CoreState → Turn → Type 0
-IsTurn k (Fire c) = (count k.state < k.budget) × (may_fire k.program k.state c ≡ true)
-IsTurn k (End end) = IsEnding k.program k.budget k.state end
+-- the core may fire the choice within its budget, with this effect
+pub record MayFire (k : CoreState) (done : Effect) (c : Choice) : Type 0 where
+  pub within : count k.state < k.budget
+  pub may : may_fire k.program k.state c ≡ true
+  pub effect : effect_of k.program k.state.memory c ≡ Some (Ok done)
+
+-- what comes next for the core: a choice that it may fire, with this effect, or an ending of its state
+abbrev pub IsTurn : CoreState → Effect → Turn → Type 0
+IsTurn k done (Fire c) = MayFire k done c
+IsTurn k done (End end) = IsEnding k.program k.budget k.state end

@@ -1,17 +1,20 @@
 //! Runs to their ending, on the caller's thread.
 
-ghost use Rattle.std.specs.Prelude.{◌≡◌, ◌≤◌, true, IfOk};
+ghost use Rattle.std.specs.Prelude.{◌≡◌, ◌<◌, ◌≤◌, true, false, IfOk};
 ghost use Rattle.rule_base.specs.Sound.{IsSound};
-ghost use Rattle.rule_base.specs.Thin.{is_thin};
 ghost use Rattle.rule_base.specs.Base.{IsLawfulBase};
 ghost use Rattle.rule_base.specs.Ending.{IsBudget, IsEnding};
 ghost use Rattle.firing_core.specs.CoreState.{IsRunOf};
 ghost use Rattle.firing_core.specs.Lawful.{IsLawful};
 ghost use Rattle.firing_core.specs.FinishedRun.{GoesOn, IsFinishedRun};
+ghost use Rattle.rule_base.specs.State.{count};
+ghost use Rattle.firing_core.specs.Firing.{IsLeft};
 ghost use Rattle.firing_core.specs.Turn.{IsTurn};
 
 use crate::Core;
+use crate::workbench::Workbench;
 use ops_text::OutOfMemory;
+use rhs_actions::EffectRefusal;
 use rule_base::{Base, Choice, Ending, Program};
 use std::alloc::Global;
 use std::sync::Arc;
@@ -41,9 +44,10 @@ pub fn finish(alloc: Global, core: Core) -> Result<Finished, OutOfMemory>
         (λ finished. core.state.halted ≡ true → finished.core ≡ core) }
 {
     let mut core = core;
+    let mut bench = Workbench::new(alloc)?;
     loop {
-        match next_turn(alloc, &core)? {
-            Turn::Fire(choice) => core.commit(alloc, choice)?,
+        match next_turn(alloc, &core, &mut bench)? {
+            Turn::Fire(choice) => core.commit(alloc, choice, &bench.effect)?,
             Turn::End(ending) => return Ok(Finished { core, ending }),
         }
     }
@@ -57,7 +61,6 @@ pub fn run_alone(
     budget: u64,
 ) -> Result<Finished, OutOfMemory>
     requires sound { IsSound program.value }
-    requires thin { is_thin program.value ≡ true }
     requires lawful { IsLawfulBase program.value base }
     requires budget { IsBudget budget }
     ensures finished { IfOk result
@@ -70,8 +73,9 @@ pub fn run_alone(
     finish(alloc, core)
 }
 
-fn next_turn(alloc: Global, core: &Core) -> Result<Turn, OutOfMemory>
-    ensures { IfOk result (IsTurn core.now) }
+/// What comes next: the effect of the choice that is to fire then lies on the bench.
+fn next_turn(alloc: Global, core: &Core, bench: &mut Workbench) -> Result<Turn, OutOfMemory>
+    ensures { IfOk result (IsTurn core.now bench.new.effect) }
 {
     // Asked first, since every ending keeps within the budget.
     let has_budget = core.has_budget();
@@ -80,7 +84,25 @@ fn next_turn(alloc: Global, core: &Core) -> Result<Turn, OutOfMemory>
     }
     match core.find_unfired(alloc)? {
         None => Ok(Turn::End(Ending::Quiet)),
-        Some(choice) if has_budget => Ok(Turn::Fire(choice)),
+        Some(choice) if has_budget => evaluated(core, choice, bench),
         Some(_) => Ok(Turn::End(Ending::Spent { n: core.count() })),
+    }
+}
+
+/// The firing of a choice that is left, or the fault of its right-hand side.
+fn evaluated(core: &Core, choice: Choice, bench: &mut Workbench) -> Result<Turn, OutOfMemory>
+    requires within { count core.now.state < core.now.budget }
+    requires going { core.now.state.halted ≡ false }
+    requires left { IsLeft core.now choice }
+    ensures { IfOk result (IsTurn core.now bench.new.effect) }
+{
+    match core.evaluate(&choice, bench) {
+        Ok(()) => Ok(Turn::Fire(choice)),
+        Err(EffectRefusal::Failed { action, cause }) => Ok(Turn::End(Ending::Fault {
+            choice,
+            action,
+            cause,
+        })),
+        Err(EffectRefusal::OutOfMemory) => Err(OutOfMemory),
     }
 }

@@ -1,23 +1,23 @@
 //! The core: a program, the base that a run begins from, and how far the run has come.
 
-ghost use Rattle.std.specs.Prelude.{◌≡◌, ◌<◌, ◌≤◌, ◌↔◌, true, IfOk, IsTrue, OnOk, OnErr};
+ghost use Rattle.std.specs.Prelude.{◌≡◌, ◌<◌, ◌≤◌, ◌↔◌, true, Ok, Some, IfErr, IfOk, IsTrue, OnOk, OnErr};
 ghost use Rattle.rule_base.specs.Sound.{IsSound};
-ghost use Rattle.rule_base.specs.Thin.{is_thin};
 ghost use Rattle.rule_base.specs.State.{count, start};
-ghost use Rattle.rule_base.specs.Step.{may_fire};
+ghost use Rattle.rule_base.specs.Step.{effect_of, may_fire, matches};
 ghost use Rattle.rule_base.specs.Base.{IsLawfulBase};
 ghost use Rattle.rule_base.specs.Ending.{IsBudget};
 ghost use Rattle.firing_core.specs.CoreState.{IsRunOf};
 ghost use Rattle.firing_core.specs.Lawful.{IsLawful};
-ghost use Rattle.firing_core.specs.Firing.{IsNext, Fires};
-ghost use Rattle.firing_core.specs.Plan.{Plans};
+ghost use Rattle.firing_core.specs.Firing.{IsNext, Fires, TellsFault};
 
-use crate::evaluation::evaluate;
+use crate::commit::{born_elements, gone_tags};
 use crate::instantiations::first_unfired;
-use crate::planning::{Plan, elements_at, planned};
 use crate::refraction::forget_stopped;
-use ops_text::{OutOfMemory, Sequence, copied};
-use rule_base::{Base, Choice, Elements, Entry, Program};
+use crate::workbench::Workbench;
+use commit_journal::{Journal, Room};
+use ops_text::{OutOfMemory, copied};
+use rhs_actions::{Effect, EffectRefusal, fire_into};
+use rule_base::{Base, Choice, Elements, Program};
 use std::alloc::Global;
 use std::marker::Model;
 use std::sync::Arc;
@@ -30,10 +30,9 @@ pub struct Core {
     base: Base,
     budget: u64,
     memory: Elements,
-    next: u64,
     /// What has fired; under `Renewed` also what has stopped matching since the last firing.
     fired: Vec<Choice>,
-    entries: Vec<Entry>,
+    journal: Journal,
     halted: bool,
 }
 
@@ -62,7 +61,6 @@ impl Core {
         budget: u64,
     ) -> Result<Core, OutOfMemory>
         requires sound { IsSound program.value }
-        requires thin { is_thin program.value ≡ true }
         requires lawful { IsLawfulBase program.value base }
         requires budget { IsBudget budget }
         ensures run { IfOk result (IsRunOf program.value base budget) }
@@ -70,15 +68,14 @@ impl Core {
     {
         let memory = base.elements.copy(alloc)?;
         let fired = copied(alloc, base.fired.as_slice())?;
-        let next = base.next;
+        let journal = Journal::new(alloc, base.next);
         Ok(Core {
             program,
             base,
             budget,
             memory,
-            next,
             fired,
-            entries: Vec::new(alloc),
+            journal,
             halted: false,
         })
     }
@@ -87,7 +84,7 @@ impl Core {
     pub fn next(&self) -> u64
         ensures { result ≡ self.now.state.next }
     {
-        self.next
+        self.journal.next()
     }
 
     /// How many firings there were.
@@ -95,7 +92,7 @@ impl Core {
         ensures value { result ≡ count self.now.state }
         ensures lawful { IsLawful self.now }
     {
-        self.entries.len() as u64
+        self.journal.len() as u64
     }
 
     /// The elements of the working memory, in rising order of their tags.
@@ -105,11 +102,12 @@ impl Core {
         &self.memory
     }
 
-    /// The journal's entries, in the order of the firings.
-    pub fn entries(&self) -> &[Entry]
-        ensures { result.now ≡ self.now.state.entries }
+    /// The journal: an entry for each firing, in order.
+    pub fn journal(&self) -> &Journal
+        ensures entries { result.now.entries ≡ self.now.state.entries }
+        ensures next { result.now.next ≡ self.now.state.next }
     {
-        self.entries.as_slice()
+        &self.journal
     }
 
     /// The program that the core runs.
@@ -120,16 +118,17 @@ impl Core {
     }
 
     /// The memory and the journal of a run that goes on no more.
-    pub fn into_parts(self) -> (Elements, Sequence<Entry>)
+    pub fn into_parts(self) -> (Elements, Journal)
         ensures memory { result.0 ≡ self.state.memory }
-        ensures journal { result.1 ≡ self.state.entries }
+        ensures entries { result.1.entries ≡ self.state.entries }
+        ensures next { result.1.next ≡ self.state.next }
     {
         let Core {
             memory,
-            entries,
+            journal,
             ..
         } = self;
-        (memory, Sequence::from_vec(entries))
+        (memory, journal)
     }
 
     /// Whether a firing has halted the run.
@@ -155,28 +154,45 @@ impl Core {
         first_unfired(alloc, &self.program, &self.memory, self.fired.as_slice())
     }
 
-    /// What the firing of a choice needs, made beforehand.
-    fn plan(&self, alloc: Global, choice: Choice) -> Result<Plan, OutOfMemory>
-        requires within { count self.now.state < self.now.budget }
-        requires may_fire { may_fire self.now.program self.now.state choice ≡ true }
-        ensures { IfOk result (Plans self.now choice) }
+    /// Evaluates the right-hand side of a choice that matches.
+    pub(crate) fn evaluate(
+        &self,
+        choice: &Choice,
+        bench: &mut Workbench,
+    ) -> Result<(), EffectRefusal>
+        requires { matches self.now.program self.now.state.memory choice.now ≡ true }
+        ensures ok { OnOk result
+            (effect_of self.now.program self.now.state.memory choice.now ≡ Some (Ok bench.new.effect)) }
+        ensures failed { IfErr result
+            (TellsFault (effect_of self.now.program self.now.state.memory choice.now)) }
     {
         let rule = &self.program.rules.as_slice()[choice.rule as usize];
-        let elements = elements_at(alloc, &self.memory, choice.tags.as_slice())?;
-        let delta = evaluate(alloc, rule, elements.as_slice())?;
-        planned(alloc, self.next, choice, delta)
+        bench.lay_out(&self.memory, choice.tags.as_slice())?;
+        fire_into(rule, &bench.elements, &mut bench.binds, &mut bench.effect)
     }
 
-    /// Fires a choice: one step of the machine. After want of memory all is as before.
-    pub(crate) fn commit(&mut self, alloc: Global, choice: Choice) -> Result<(), OutOfMemory>
+    /// Fires a choice with its effect: one step of the machine. After want of memory all is as before.
+    pub(crate) fn commit(
+        &mut self,
+        alloc: Global,
+        choice: Choice,
+        effect: &Effect,
+    ) -> Result<(), OutOfMemory>
         requires within { count self.old.state < self.old.budget }
         requires may_fire { may_fire self.old.program self.old.state choice ≡ true }
+        requires effect { effect_of self.old.program self.old.state.memory choice ≡ Some (Ok effect.now) }
         ensures ok { OnOk result (Fires self.old self.new choice) }
         ensures err { OnErr result (self.new ≡ self.old) }
     {
-        let plan = self.plan(alloc, choice)?;
-        let fired = plan.entry.choice.copy(alloc)?;
-        self.entries.reserve(1)?;
+        let gone = gone_tags(alloc, effect)?;
+        let born = born_elements(alloc, self.journal.next(), effect)?;
+        let room = Room::for_entry(
+            choice.tags.as_slice(),
+            gone.as_slice(),
+            &born,
+            effect.pieces(),
+        )?;
+        self.journal.reserve(room)?;
         forget_stopped(
             alloc,
             self.base.refraction,
@@ -184,12 +200,18 @@ impl Core {
             &self.memory,
             &mut self.fired,
         )?;
-        self.memory.change(alloc, plan.gone.as_slice(), &plan.born)?;
+        self.memory.change(alloc, gone.as_slice(), &born)?;
         // From here on nothing fails.
-        self.next += plan.born.len() as u64;
-        self.halted = self.halted || plan.entry.halts;
-        self.fired.push_reserved(fired);
-        self.entries.push_reserved(plan.entry);
+        self.halted = self.halted || effect.halts();
+        self.journal.push(
+            choice.rule,
+            choice.tags.as_slice(),
+            gone.as_slice(),
+            &born,
+            effect.pieces(),
+            effect.halts(),
+        );
+        self.fired.push_reserved(choice);
         Ok(())
     }
 }

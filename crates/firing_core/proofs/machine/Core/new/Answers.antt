@@ -11,12 +11,12 @@ use Rattle.firing_core.proofs.machine.Core.new.Goals as goal
 
 pub invariant_of-result : goal.invariant_of-result
 invariant_of-result c =
-    let inside : Inside = record { program = c.args.program; base = c.args.base; budget = c.args.budget; memory = c.in_ok-memory.memory; next = c.args.base.next; fired = c.in_ok-fired.fired; entries = c.new.result; halted = false } in
+    let inside : Inside = record { program = c.args.program; base = c.args.base; budget = c.args.budget; memory = c.in_ok-memory.memory; fired = c.in_ok-fired.fired; journal = c.new-journal.result; halted = false } in
     let begins : state_in inside ≡ start c.args.base = state_in-start inside c.requires.lawful.matching (search rules) (search rules) (search rules) (search rules) (search rules) in
     subst (λ (s : State). IsKept (record { program = c.args.program.value; base = c.args.base; budget = c.args.budget; state = s })) (sym begins)
-    (IsKept-start c.args.program.value c.args.base c.args.budget c.requires.sound c.requires.thin c.requires.lawful c.requires.budget)
+    (IsKept-start c.args.program.value c.args.base c.args.budget c.requires.sound c.requires.lawful c.requires.budget)
 
 pub returns-clause-begins : goal.returns-clause-begins
 returns-clause-begins c =
-    let inside : Inside = record { program = c.args.program; base = c.args.base; budget = c.args.budget; memory = c.in_ok-memory.memory; next = c.args.base.next; fired = c.in_ok-fired.fired; entries = c.new.result; halted = false } in
+    let inside : Inside = record { program = c.args.program; base = c.args.base; budget = c.args.budget; memory = c.in_ok-memory.memory; fired = c.in_ok-fired.fired; journal = c.new-journal.result; halted = false } in
     state_in-start inside c.requires.lawful.matching (search rules) (search rules) (search rules) (search rules) (search rules)
