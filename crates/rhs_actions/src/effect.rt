@@ -1,13 +1,13 @@
 //! What a firing asks for, in flat arrays: however many elements it makes, their values lie in one
 //! block, so that an effect which is filled again needs no block of its own.
 
-ghost use Rattle.std.specs.Prelude.{◌≡◌, ℕ, ◌+◌, ◌≤◌, ◌<◌, ◌↔◌, [], ◌∷◌, ◌++◌, IfErr, IsTrue, Ok, Err, OnOk, Some, drop, length, replicate, slice_get, take, vec_len};
+ghost use Rattle.std.specs.Prelude.{◌≡◌, ℕ, ◌+◌, ◌^◌, ◌≤◌, ◌<◌, ◌↔◌, [], ◌∷◌, ◌++◌, IfErr, IsTrue, Ok, Err, OnOk, Some, drop, length, replicate, slice_get, take, vec_len};
 ghost use Rattle.rule_base.specs.Value.{nil};
 ghost use Rattle.rule_base.specs.Views.{element_in};
 ghost use Rattle.rule_base.specs.Term.{after_sets};
 ghost use Rattle.rule_base.specs.Effect.{is_gone, modified};
 ghost use Rattle.rule_base.specs.Step.{born};
-ghost use Rattle.rhs_actions.specs.EffectPlaces.{IsWithin, LieAmong, change_of, changes_in, sizes_of};
+ghost use Rattle.rhs_actions.specs.EffectPlaces.{IsWithin, change_of, changes_in, sizes_of};
 ghost use Rattle.rhs_actions.specs.EffectViews.{change_in, no_effect, value_count};
 ghost use Rattle.rhs_actions.specs.Refusals.{Tells};
 ghost use Rattle.rhs_actions.specs.Acting.{made, reached, removed, halted, written};
@@ -110,7 +110,7 @@ impl Effect {
     pub fn made_values(&self) -> usize
         ensures { (next : ℕ) → value_count (born next self.now.changes) ≡ result }
     {
-        made_values(self.values.as_slice(), self.changes.as_slice())
+        made_values(self.changes.as_slice())
     }
 
     /// The change at a place that counts from 0.
@@ -246,8 +246,8 @@ fn makes(changes: &[Placed]) -> usize
 }
 
 /// How many values lie at the places of changes.
-fn made_values(values: &[Value], changes: &[Placed]) -> usize
-    requires { LieAmong values.now changes.now }
+fn made_values(changes: &[Placed]) -> usize
+    requires { sizes_of changes.now < 2 ^ 64 }
     ensures { result ≡ sizes_of changes.now }
 {
     let mut count = 0;
