@@ -5,6 +5,7 @@ pub mod AcceptanceLemmas
 pub mod FilterLemmas
 pub mod UnfiredLemmas
 -- the firing
+pub mod ChangeLemmas
 pub mod FiringLemmas
 pub mod LawfulLemmas
 pub mod CommitLemmas

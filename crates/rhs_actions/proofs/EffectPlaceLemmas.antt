@@ -1,7 +1,8 @@
 -- Effects in flat arrays: values that are added hide none, and a change that is added lies behind the others.
 use Rattle.std.proofs.Common.{◌≡◌, ℕ, ◌+◌, ◌-◌, ◌≤◌, ◌==◌, List, [], ◌∷◌, ◌++◌, Bool, Result, Ok, length, drop, take, replicate, refl, sym, ◌∙◌, ap, subst, arith, append_assoc}
-use Rattle.std.specs.List.{list_any}
-use Rattle.std.proofs.lemmas.List.{drop-append-le, length-drop, map-append, take-append-drop, take-append-le, take_all}
+use Rattle.std.specs.List.{list_any, sum_by}
+use Rattle.std.proofs.lemmas.List.{drop-append-le, length-drop, length-take-le, map-append, take-append-drop, take-append-le, take_all}
+use Rattle.std.proofs.lemmas.List.Sums.{sum_by-cons}
 use Rattle.std.proofs.Math.Seq.{drop-append_seam, take-append_seam}
 use Rattle.rule_base.specs.declared.value.Value.{Value}
 use Rattle.rule_base.specs.declared.element.Element.{Element}
@@ -14,11 +15,12 @@ use Rattle.rule_base.specs.Value.{nil}
 use Rattle.rule_base.specs.Bindings.{Bindings}
 use Rattle.rule_base.specs.Term.{after_sets}
 use Rattle.rule_base.specs.Effect.{Effect, Progress, changing, is_gone, modified, removed_tags}
-use Rattle.rule_base.proofs.EachLemmas.{Each-append}
+use Rattle.rule_base.specs.Step.{born}
+use Rattle.rule_base.proofs.EachLemmas.{Each-append, Each-weaker}
 use Rattle.rule_base.proofs.EffectLemmas.{makes}
 use Rattle.rhs_actions.specs.declared.effect.Placed.{Placed}
 use Rattle.rhs_actions.specs.declared.effect.Placed.TheVariants.{Remove, Make}
-use Rattle.rhs_actions.specs.EffectPlaces.{AreWithin, IsWithin, change_of, changes_in, effect_in}
+use Rattle.rhs_actions.specs.EffectPlaces.{AreWithin, IsWithin, LieAmong, change_of, changes_in, effect_in, sizes_of}
 use Rattle.rhs_actions.specs.Acting.{made, reached}
 
 -- a change stays the same where more values follow
@@ -106,3 +108,30 @@ modified-is b sets e values now after places removed placed pieces halts start s
     let changes : changes_in values places ++ change.Remove e.tag ∷ last ∷ [] ≡ changes_in after placed = sym (all ∙ append_assoc (changes_in values places) (change.Remove e.tag ∷ []) (last ∷ [])) in
     ap (λ (r : Result (List Value) FaultCause). r >>= λ values. Ok (changing (reached b old) (change.Remove e.tag ∷ change.Make e.class values ∷ []))) first
     ∙ ap (λ cs. let e : Effect = record { changes = cs; pieces = pieces; halts = halts } in let r : Result Progress FaultCause = Ok (reached b e) in r) changes
+
+-- places lie among more values, too
+IsWithin-longer : (values after : List Value) (place : Placed) → length values ≤ length after → IsWithin values place → IsWithin after place
+IsWithin-longer values after (Remove tag) longer within = tt
+IsWithin-longer values after (Make start size class) longer within = omega (arith, longer, within)
+
+sizes_of-append : (places added : List Placed) → sizes_of (places ++ added) ≡ sizes_of places + sizes_of added
+sizes_of-append [] added = omega arith
+sizes_of-append (place ∷ places) added = omega (arith, sizes_of-append places added)
+
+-- and so do places that are added for values that are
+pub LieAmong-added : (values after : List Value) (places added placed : List Placed) → LieAmong values places → length values + sizes_of added ≤ length after → AreWithin after added → placed ≡ places ++ added → LieAmong after placed
+LieAmong-added values after places added placed among room within placed_is =
+    let all : LieAmong after (places ++ added) = record {
+      within = Each-append (IsWithin after) places added (Each-weaker (IsWithin values) (IsWithin after) (λ place. IsWithin-longer values after place (omega (arith, room))) places among.within) within;
+      few = omega (arith, room, among.few, sizes_of-append places added);
+    } in
+    subst (LieAmong after) (sym placed_is) all
+
+-- the elements that are made have the values that lie at their places
+pub values-born : (values : List Value) (places : List Placed) (next : ℕ) → AreWithin values places → sum_by (λ (e : Element). length e.values) (born next (changes_in values places)) ≡ sizes_of places
+values-born values [] next within = refl
+values-born values (Remove tag ∷ places) next within = omega (arith, values-born values places next within.1)
+values-born values (Make start size class ∷ places) next within =
+    let long : length (take size (drop start values)) ≡ size = length-take-le size (drop start values) (omega (arith, within.0, length-drop start values)) in
+    let first : Element = record { tag = next; class = class; values = take size (drop start values) } in
+    omega (arith, sum_by-cons (λ (e : Element). length e.values) first (born (next + 1) (changes_in values places)), long, values-born values places (next + 1) within.1)

@@ -1,5 +1,5 @@
 -- How an effect lies in flat arrays: where the elements that it makes lie in a list of values.
-use Rattle.std.specs.Prelude.{◌+◌, ◌≤◌, List, Bool, drop, length, map, take}
+use Rattle.std.specs.Prelude.{ℕ, ◌+◌, ◌≤◌, List, [], ◌∷◌, Bool, drop, length, map, take}
 use Rattle.std.specs.List.{AllByRecursion}
 use Rattle.rule_base.specs.declared.value.Value.{Value}
 use Rattle.rule_base.specs.declared.change.Change.{Change}
@@ -29,3 +29,17 @@ IsWithin values (Make start size class) = start + size ≤ length values
 
 abbrev pub AreWithin : List Value → List Placed → Type 0
 AreWithin values places = AllByRecursion (IsWithin values) places
+
+-- how many values lie at a place, and at all of these
+abbrev pub size_of : Placed → ℕ
+size_of (Remove tag) = 0
+size_of (Make start size class) = size
+
+abbrev pub sizes_of : List Placed → ℕ
+sizes_of [] = 0
+sizes_of (place ∷ places) = size_of place + sizes_of places
+
+-- all values of the places are there, and together they are no more than there are
+pub record LieAmong (values : List Value) (places : List Placed) : Type 0 where
+  pub within : AreWithin values places
+  pub few : sizes_of places ≤ length values

@@ -1,14 +1,14 @@
 //! What a firing asks for, in flat arrays: however many elements it makes, their values lie in one
 //! block, so that an effect which is filled again needs no block of its own.
 
-ghost use Rattle.std.specs.Prelude.{◌≡◌, ℕ, ◌+◌, ◌≤◌, ◌<◌, ◌↔◌, [], ◌∷◌, ◌++◌, IfErr, IsTrue, Ok, Err, OnOk, Some, drop, length, replicate, slice_get, take, vec_len};
+ghost use Rattle.std.specs.Prelude.{◌≡◌, ℕ, ◌+◌, ◌^◌, ◌≤◌, ◌<◌, ◌↔◌, [], ◌∷◌, ◌++◌, IfErr, IsTrue, Ok, Err, OnOk, Some, drop, length, replicate, slice_get, take, vec_len};
 ghost use Rattle.rule_base.specs.Value.{nil};
 ghost use Rattle.rule_base.specs.Views.{element_in};
 ghost use Rattle.rule_base.specs.Term.{after_sets};
 ghost use Rattle.rule_base.specs.Effect.{is_gone, modified};
 ghost use Rattle.rule_base.specs.Step.{born};
-ghost use Rattle.rhs_actions.specs.EffectPlaces.{IsWithin, change_of, changes_in};
-ghost use Rattle.rhs_actions.specs.EffectViews.{change_in, no_effect};
+ghost use Rattle.rhs_actions.specs.EffectPlaces.{IsWithin, change_of, changes_in, sizes_of};
+ghost use Rattle.rhs_actions.specs.EffectViews.{change_in, no_effect, value_count};
 ghost use Rattle.rhs_actions.specs.Refusals.{Tells};
 ghost use Rattle.rhs_actions.specs.Acting.{made, reached, removed, halted, written};
 
@@ -52,13 +52,13 @@ pub struct Effect {
 
 impl Model for Effect {
     ghost use Rattle.rule_base.specs.Effect.{Effect as TheEffect};
-    ghost use Rattle.rhs_actions.specs.EffectPlaces.{AreWithin, effect_in};
+    ghost use Rattle.rhs_actions.specs.EffectPlaces.{LieAmong, effect_in};
 
     ghost Value = { TheEffect };
 
     ghost view = { λ e. effect_in e.values.items e.changes.items e.pieces.items e.halts };
 
-    ghost invariant = { λ e. AreWithin e.values.items e.changes.items };
+    ghost invariant = { λ e. LieAmong e.values.items e.changes.items };
 }
 
 impl Effect {
@@ -98,11 +98,19 @@ impl Effect {
         self.changes.is_empty()
     }
 
-    /// How many of them are makes, so many tags the commit gives. It looks at one change after another.
+    /// How many elements it makes: so many time tags does a commit give. It looks at one change after
+    /// another.
     pub fn makes(&self) -> usize
         ensures { (next : ℕ) → length (born next self.now.changes) ≡ result }
     {
         makes(self.changes.as_slice())
+    }
+
+    /// How many values these elements have, together. It looks at one change after another.
+    pub fn made_values(&self) -> usize
+        ensures { (next : ℕ) → value_count (born next self.now.changes) ≡ result }
+    {
+        made_values(self.changes.as_slice())
     }
 
     /// The change at a place that counts from 0.
@@ -232,6 +240,25 @@ fn makes(changes: &[Placed]) -> usize
     for change in changes {
         if let Placed::Make { .. } = change {
             count += 1;
+        }
+    }
+    count
+}
+
+/// How many values lie at the places of changes.
+fn made_values(changes: &[Placed]) -> usize
+    requires { sizes_of changes.now < 2 ^ 64 }
+    ensures { result ≡ sizes_of changes.now }
+{
+    let mut count = 0;
+    for change in changes {
+        if let Placed::Make {
+            start: _,
+            size,
+            class: _,
+        } = change
+        {
+            count += *size;
         }
     }
     count

@@ -3,16 +3,16 @@ use Rattle.std.proofs.Common.{arith}
 use Rattle.firing_core.proofs.FiringLemmas.{GoesOn-fires, count-fires, halted_fires_nothing}
 use Rattle.firing_core.proofs.finishing.finish.Goals as goal
 
-pub loop-core-smaller : goal.loop-core-smaller
-loop-core-smaller c =
+pub loop-bench-smaller : goal.loop-bench-smaller
+loop-bench-smaller c =
     let turn = rw c.in-Fire.is at c.in_ok-choice.ensures in
     let fires = c.in_ok-commit-in-Fire.ensures.ok in
-    omega (arith, turn.0, count-fires c.loop-core.core c.commit.new.self c.in-Fire.choice fires, fires.same.with_budget)
+    omega (arith, turn.0, count-fires c.loop-bench.core c.commit.new.self c.in-Fire.choice fires, fires.same.with_budget)
 
-pub loop-core-preserved : goal.loop-core-preserved
-loop-core-preserved c =
+pub loop-bench-preserved : goal.loop-bench-preserved
+loop-bench-preserved c =
     let turn = rw c.in-Fire.is at c.in_ok-choice.ensures in
     record {
-      goes_on = GoesOn-fires _ _ _ _ c.loop-core.invariant.goes_on c.in_ok-commit-in-Fire.ensures.ok;
-      halted_before = λ halted. absurd (halted_fires_nothing c.loop-core.core.program c.loop-core.core.state c.in-Fire.choice (rw (c.loop-core.invariant.halted_before halted) halted) turn.1);
+      goes_on = GoesOn-fires _ _ _ _ c.loop-bench.invariant.goes_on c.in_ok-commit-in-Fire.ensures.ok;
+      halted_before = λ halted. absurd (halted_fires_nothing c.loop-bench.core.program c.loop-bench.core.state c.in-Fire.choice (rw (c.loop-bench.invariant.halted_before halted) halted) turn.1);
     }
