@@ -1,5 +1,5 @@
 -- Lists beside each other: how pairs of them take elements in, and what each pair has of either list.
-use Rattle.std.proofs.Common.{◌≡◌, ℕ, ◌<◌, List, [], ◌∷◌, ◌++◌, Some, length, drop, map, slice_get, take, zero, suc, refl, sym, ◌∙◌, ap, arith}
+use Rattle.std.proofs.Common.{◌≡◌, ℕ, List, [], ◌∷◌, ◌++◌, Some, length, drop, map, slice_get, take, zero, suc, refl, sym, ◌∙◌, ap, arith}
 use Rattle.std.specs.List.{flat_map, zip}
 
 pub length-beside : {X Y : Type 0} (xs : List X) (ys : List Y) → length xs ≡ length ys → length (zip xs ys) ≡ length ys

@@ -1,5 +1,5 @@
 -- Elements with consecutive tags: how many there are, each of them, and one more.
-use Rattle.std.proofs.Common.{◌≡◌, ℕ, ◌+◌, ◌<◌, ◌≤◌, List, [], ◌∷◌, ◌++◌, Some, None, true, false, eqb, rules, subst, tests, length, drop, take, slice_get, zero, suc, refl, sym, ◌∙◌, ap, arith}
+use Rattle.std.proofs.Common.{◌≡◌, ℕ, ◌+◌, ◌<◌, ◌≤◌, List, [], ◌∷◌, ◌++◌, Some, None, true, false, eqb, rules, subst, tests, length, drop, take, slice_get, zero, suc, refl, ◌∙◌, ap, arith}
 use Rattle.rule_base.specs.declared.value.Value.{Value}
 use Rattle.rule_base.specs.declared.element.Element.{Element}
 use Rattle.std.proofs.lemmas.List.Sums.{sum_by-cons}

@@ -1,5 +1,5 @@
 -- Lists that lie one behind another in one list of items.
-use Rattle.std.specs.Prelude.{◌≡◌, ℕ, ◌-◌, ◌≤◌, ◌^◌, List, [], ◌∷◌, length, min, slice_range}
+use Rattle.std.specs.Prelude.{◌≡◌, ℕ, ◌-◌, ◌≤◌, ◌^◌, List, [], ◌∷◌, slice_range}
 
 -- the lists that end at these places, each of which begins where the one before it ends, and the first one here
 abbrev pub cut_from : {A : Type 0} → ℕ → List ℕ → List A → List (List A)

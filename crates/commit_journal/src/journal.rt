@@ -1,13 +1,13 @@
 //! The journal of a run: one entry for each firing, in flat arrays. Taking an entry in needs no block of
 //! its own, and none at all where there is room.
 
-ghost use Rattle.std.specs.Prelude.{◌≡◌, ◌+◌, ◌^◌, ◌<◌, ◌≤◌, ◌↔◌, [], ◌∷◌, ◌++◌, IfOk, IsTrue, OnOk, OnErr, Some, drop, length, option_map, slice_get, take};
+ghost use Rattle.std.specs.Prelude.{◌≡◌, ◌+◌, ◌^◌, ◌<◌, ◌≤◌, ◌↔◌, [], ◌∷◌, ◌++◌, IfOk, IsTrue, OnOk, Some, drop, length, option_map, slice_get, take};
 ghost use Rattle.rule_base.specs.Memory.{element_at, tags_of};
 ghost use Rattle.rule_base.specs.Opening.{AreConsecutive};
 ghost use Rattle.rule_base.specs.Views.{element_in};
 ghost use Rattle.commit_journal.specs.Entries.{born_in, entry_with, pieces_of};
 ghost use Rattle.commit_journal.specs.EntryViews.{entry_in};
-ghost use Rattle.commit_journal.specs.Room.{FitsIn, larger_room, room_for, room_without};
+ghost use Rattle.commit_journal.specs.Room.{FitsIn, room_for, room_without};
 
 use crate::firing::{Firing, born_before, firings_before};
 use crate::lists::{Lists, part};
@@ -156,8 +156,8 @@ impl Journal {
     /// fails where tags, or places of born elements, would run out.
     pub fn reserve(&mut self, room: Room) -> Result<(), OutOfMemory>
         ensures entries { (self.new.entries ≡ self.old.entries) × (self.new.next ≡ self.old.next) }
-        ensures ok { OnOk result (self.new.room ≡ larger_room self.old.room room) }
-        ensures err { OnErr result (self.new.room ≡ self.old.room) }
+        ensures ok { OnOk result (FitsIn room self.new.room) }
+        ensures kept { FitsIn self.old.room self.new.room }
     {
         if !self.newborns.has_numbers_for(room.elements) {
             return Err(OutOfMemory);

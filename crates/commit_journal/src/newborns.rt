@@ -86,6 +86,7 @@ impl Newborns {
         requires { place + number < length self.now.elements }
         ensures { slice_get self.now.elements (place + number) ≡ Some (element_in result) }
     {
+        // So the sum is no greater than a length, and has 64 bits.
         let len = self.len();
         prove!(place + number < len);
         self.at(place + number)

@@ -20,7 +20,7 @@ pub struct Room {
 
 impl Room {
     /// No room.
-    pub fn none() -> Room
+    pub(crate) fn none() -> Room
         ensures { result ≡ record { entries = 0; tags = 0; gone = 0; elements = 0; values = 0; pieces = 0 } }
     {
         Room {
@@ -54,7 +54,7 @@ impl Room {
     }
 
     /// What is left once so much is taken.
-    pub fn without(self, taken: Room) -> Room
+    pub(crate) fn without(self, taken: Room) -> Room
         requires { FitsIn taken self }
         ensures { result ≡ room_without self taken }
     {
@@ -69,7 +69,7 @@ impl Room {
     }
 
     /// What holds all that either holds.
-    pub fn larger(self, other: Room) -> Room
+    pub(crate) fn larger(self, other: Room) -> Room
         ensures { result ≡ larger_room self other }
     {
         Room {

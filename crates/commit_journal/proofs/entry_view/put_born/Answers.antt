@@ -1,7 +1,6 @@
 -- One element more.
-use Rattle.std.proofs.Common.{◌≡◌, ◌+◌, ◌∷◌, [], ◌++◌, ◌∙◌, ap, append_assoc, map, rules, sym, take}
+use Rattle.std.proofs.Common.{◌≡◌, ◌+◌, ◌∷◌, [], ◌++◌, ◌∙◌, ap, append_assoc, map, sym, take}
 use Rattle.std.proofs.lemmas.List.{map-append}
-use Rattle.rule_base.specs.declared.change.Tagged.{Tagged}
 use Rattle.rule_base.specs.declared.change.Tagged.TheVariants.{Born}
 use Rattle.rule_base.specs.declared.element.Element.{Element}
 use Rattle.rule_base.specs.Views.{element_in}

@@ -1,5 +1,5 @@
 -- The arrays of the range are ranges of the arrays.
-use Rattle.std.proofs.Common.{◌≡◌, ◌+◌, ◌-◌, ◌^◌, ◌<◌, ◌≤◌, ◌∷◌, ◌∙◌, ap, arith, drop, length, map, rules, subst, sym, take}
+use Rattle.std.proofs.Common.{◌≡◌, ◌+◌, ◌-◌, ◌≤◌, ◌∷◌, ◌∙◌, ap, arith, drop, length, map, rules, subst, sym, take}
 use Rattle.std.specs.Prelude.{slice_index, slice_range}
 use Rattle.std.proofs.lemmas.List.{length-drop, length-map, length-take}
 use Rattle.commit_journal.specs.declared.firing.Firing.{Firing}

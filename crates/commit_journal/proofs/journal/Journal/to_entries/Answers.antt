@@ -1,5 +1,5 @@
 -- One entry more.
-use Rattle.std.proofs.Common.{◌∷◌, [], ◌++◌, rules, sym, ◌∙◌, ap}
+use Rattle.std.proofs.Common.{◌∷◌, [], ◌++◌, sym, ◌∙◌, ap}
 use Rattle.rule_base.proofs.StepByStepLemmas.{take_next}
 use Rattle.commit_journal.specs.EntryViews.{entry_in}
 use Rattle.commit_journal.proofs.journal.Journal.to_entries.Goals as goal

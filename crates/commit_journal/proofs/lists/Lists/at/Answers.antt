@@ -1,5 +1,5 @@
 -- The list lies between the end before it and its own.
-use Rattle.std.proofs.Common.{◌≡◌, ◌≤◌, ◌<◌, ◌∷◌, Some, arith, rules, sym, subst, ◌∙◌, ap, length, slice_get}
+use Rattle.std.proofs.Common.{◌≡◌, ◌<◌, ◌∷◌, Some, arith, rules, sym, subst, ◌∙◌, ap, length, slice_get}
 use Rattle.std.specs.Prelude.{slice_index, slice_range}
 use Rattle.std.proofs.lemmas.List.{get_or_read}
 use Rattle.commit_journal.specs.Lists.{Kept}

@@ -1,5 +1,5 @@
 -- The items of all lists are all items.
-use Rattle.std.proofs.Common.{◌≡◌, List, rules, sym, subst, ◌∙◌}
+use Rattle.std.proofs.Common.{◌≡◌, List, sym, subst, ◌∙◌}
 use Rattle.std.specs.List.{flat_map}
 use Rattle.commit_journal.specs.Lists.{Kept}
 use Rattle.commit_journal.proofs.CutLemmas.{flat_map-cut}

@@ -1,7 +1,7 @@
 -- The lists lie between where the first one begins and where the last one ends.
-use Rattle.std.proofs.Common.{◌≡◌, ◌+◌, ◌-◌, ◌≤◌, ◌∷◌, ◌∙◌, ap, arith, drop, length, map, rules, subst, sym, take}
+use Rattle.std.proofs.Common.{◌≡◌, ◌+◌, ◌-◌, ◌≤◌, ◌∷◌, ◌∙◌, ap, arith, drop, length, subst, sym, take}
 use Rattle.std.specs.Prelude.{slice_index, slice_range}
-use Rattle.commit_journal.specs.Lists.{Kept, RiseTo, cut, most_items}
+use Rattle.commit_journal.specs.Lists.{Kept, RiseTo, cut}
 use Rattle.commit_journal.proofs.CutLemmas.{RiseTo-range, begin-le, cut-range, length-cut_from, length-range, places_before, range_is}
 use Rattle.commit_journal.proofs.lists.Lists.range.Goals as goal
 

@@ -1,5 +1,5 @@
 -- The element has the class and the values at its place.
-use Rattle.std.proofs.Common.{◌≡◌, ◌+◌, ◌<◌, ◌∙◌, Some, arith, length, rules, slice_get, subst, sym}
+use Rattle.std.proofs.Common.{◌≡◌, ◌+◌, ◌<◌, Some, arith, length, rules, slice_get, subst, sym}
 use Rattle.std.proofs.lemmas.Option.{slice_get_read}
 use Rattle.rule_base.specs.Views.{element_in}
 use Rattle.commit_journal.specs.Newborns.{Made}

@@ -1,5 +1,5 @@
 -- One element more.
-use Rattle.std.proofs.Common.{◌≡◌, ◌+◌, ◌≤◌, ◌<◌, ◌++◌, ◌∷◌, [], ◌∙◌, ap, arith, drop, length, rules, subst, sym, take, append_assoc}
+use Rattle.std.proofs.Common.{◌≡◌, ◌+◌, ◌<◌, ◌++◌, ◌∷◌, [], ◌∙◌, ap, arith, drop, length, rules, subst, sym, take, append_assoc}
 use Rattle.rule_base.specs.Memory.{tags_of}
 use Rattle.rule_base.specs.Opening.{AreConsecutive}
 use Rattle.rule_base.specs.Views.{element_in}

@@ -1,5 +1,5 @@
 -- The element is behind the others.
-use Rattle.std.proofs.Common.{◌≡◌, ◌+◌, [], ◌∷◌, ◌++◌, ◌∙◌, ap, length, rules, subst, sym}
+use Rattle.std.proofs.Common.{◌≡◌, ◌+◌, [], ◌∷◌, ◌++◌, ◌∙◌, ap, length, subst, sym}
 use Rattle.rule_base.specs.Views.{element_in}
 use Rattle.commit_journal.specs.Newborns.{Made, numbered}
 use Rattle.commit_journal.proofs.NumberedLemmas.{element, numbered-push}
