@@ -18,7 +18,10 @@ use Rattle.rule_base.specs.State.{State, has_fired}
 use Rattle.rule_base.specs.Step.{born, committed, effect_of, entry_of, matches, may_fire, memory_after, step, still_fired, without}
 use Rattle.rule_base.proofs.ElementMatchLemmas.{bindings_with-elements_at}
 use Rattle.rule_base.proofs.StepLemmas.{step-from_parts}
+use Rattle.rhs_actions.specs.declared.refusal.EffectRefusal.{EffectRefusal}
+use Rattle.rhs_actions.specs.Refusals.{TellsFailure}
 use Rattle.firing_core.specs.CoreState.{CoreState}
+use Rattle.firing_core.specs.Firing.{TellsFault}
 
 -- a choice that matches names a rule of the program, whose positive condition elements accept its elements
 pub record HasMatch (program : Program) (memory : Memory) (c : Choice) : Type 0 where
@@ -51,6 +54,21 @@ pub effect_of-rule : (program : Program) (memory : Memory) (c : Choice) (rule : 
 effect_of-rule program memory c rule r at is =
     let of_rule : Option Rule → Option (Result Effect Failure) = option_map (λ (x : Rule). effect x (elements_at memory c.tags)) in
     ap of_rule at ∙ ap (λ x. Some x) is
+
+-- and so is its first failing action
+pub TellsFault-rule : (program : Program) (memory : Memory) (c : Choice) (rule : Rule) (refusal : EffectRefusal) → slice_get program.rules c.rule ≡ Some rule → TellsFailure (effect rule (elements_at memory c.tags)) refusal → TellsFault (effect_of program memory c) refusal
+TellsFault-rule program memory c rule refusal at tells = record {
+  failed = λ action cause is. effect_of-rule program memory c rule (Err (record { action = action; cause = cause })) at (tells.failed action cause is);
+}
+
+-- its positive condition elements accept the elements
+pub has_read : (program : Program) (memory : Memory) (c : Choice) (rule : Rule) → (has : HasMatch program memory c) → slice_get program.rules c.rule ≡ Some rule → IsSome (bindings_with rule (elements_at memory c.tags))
+has_read program memory c rule has at =
+    let same : has.rule ≡ rule = some_same (sym has.at ∙ at) in
+    subst (λ (r : Rule). IsSome (bindings_with r (elements_at memory c.tags))) same has.accepted
+  where
+    some_same : {A : Type 0} {a b : A} → Some a ≡ Some b → a ≡ b
+    some_same e = cc
 
 -- the elements that changes make have consecutive tags
 pub AreConsecutive-born : (next : ℕ) (changes : List Change) → AreConsecutive next (tags_of (born next changes))

@@ -7,12 +7,12 @@ pub loop-bench-smaller : goal.loop-bench-smaller
 loop-bench-smaller c =
     let turn = rw c.in-Fire.is at c.in_ok-choice.ensures in
     let fires = c.in_ok-commit-in-Fire.ensures.ok in
-    omega (arith, turn.0, count-fires c.loop-bench.core c.commit.new.self c.in-Fire.choice fires, fires.same.with_budget)
+    omega (arith, turn.within, count-fires c.loop-bench.core c.commit.new.self c.in-Fire.choice fires, fires.same.with_budget)
 
 pub loop-bench-preserved : goal.loop-bench-preserved
 loop-bench-preserved c =
     let turn = rw c.in-Fire.is at c.in_ok-choice.ensures in
     record {
       goes_on = GoesOn-fires _ _ _ _ c.loop-bench.invariant.goes_on c.in_ok-commit-in-Fire.ensures.ok;
-      halted_before = λ halted. absurd (halted_fires_nothing c.loop-bench.core.program c.loop-bench.core.state c.in-Fire.choice (rw (c.loop-bench.invariant.halted_before halted) halted) turn.1);
+      halted_before = λ halted. absurd (halted_fires_nothing c.loop-bench.core.program c.loop-bench.core.state c.in-Fire.choice (rw (c.loop-bench.invariant.halted_before halted) halted) turn.may);
     }
