@@ -2,7 +2,7 @@
 use Rattle.std.specs.Prelude.{◌≡◌, ℕ}
 use Rattle.ops_command.specs.declared.status.Report.{Report}
 use Rattle.ops_command.specs.declared.status.Status.{Status}
-use Rattle.ops_command.specs.declared.status.Status.TheVariants.{Quiet, Halted, Usage, Spent, Fault, ReadFault, WriteFault, TooLong, Syntax, Check, NotBuilt, OutOfMemory}
+use Rattle.ops_command.specs.declared.status.Status.TheVariants.{Quiet, Halted, Usage, Spent, Fault, ReadFault, WriteFault, TooLong, Syntax, Check, OutOfMemory}
 use Rattle.ops_command.specs.Call.{Call}
 use Rattle.ops_command.specs.Promise.{KeepsPromise}
 
@@ -19,7 +19,6 @@ exit_number (Syntax file at kind) = 7
 exit_number (Check file form kind) = 8
 exit_number (TooLong file) = 9
 exit_number OutOfMemory = 10
-exit_number (NotBuilt at) = 12
 
 -- the promise to the call is kept by a report, whose status has this number
 pub record EndsWith (call : Call) (number : ℕ) : Type 0 where

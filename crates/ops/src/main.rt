@@ -27,7 +27,6 @@ fn exit_number(status: &Status) -> u8
         Status::Check { .. } => 8,
         Status::TooLong { .. } => 9,
         Status::OutOfMemory => 10,
-        Status::NotBuilt { .. } => 12,
     }
 }
 

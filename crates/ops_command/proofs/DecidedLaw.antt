@@ -15,7 +15,6 @@ IsDecided-out_of_memory call = record {
   usage = λ kind faulty. inr refl;
   program_too_long = λ asked bytes asks long. inr refl;
   program_text = λ asked bytes asks short. record { syntax = λ at why refused. inr refl; check = λ forms after violation text violated. inr refl };
-  not_built = λ asked bytes forms number asks short has. (0, inr refl);
   memory_too_long = λ asked named bytes asks long. inr refl;
   memory_text = λ asked named bytes asks short. record { syntax = λ at why refused. inr refl; check = λ forms after violation text violated. inr refl };
   runs = λ asked named opening asks. inr refl;
@@ -32,7 +31,6 @@ IsDecided-answer call report status.WriteFault calm fault = absurd (calm.writing
 IsDecided-answer call report (status.TooLong kind) calm written = IsDecided-said call _ calm written.is_said
 IsDecided-answer call report (status.Syntax kind at why) calm written = IsDecided-said call _ calm written.is_said
 IsDecided-answer call report (status.Check kind form why) calm written = IsDecided-said call _ calm written.is_said
-IsDecided-answer call report (status.NotBuilt at) calm written = IsDecided-said call _ calm written.is_said
 IsDecided-answer call report status.OutOfMemory calm nothing = IsDecided-out_of_memory call
 
 pub answers_are_decided : (call : Call) (report : Report) → KeepsPromise call report → HasNoFault call → IsDecided call report.status

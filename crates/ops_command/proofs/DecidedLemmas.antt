@@ -1,10 +1,6 @@
 -- Where no count of faults rose, what is said of the words is decided by them and the files.
 use Rattle.std.proofs.Common.{◌≡◌, ℕ, ◌+◌, ◌<◌, ◌≤◌, ◌⊎◌, inl, inr, Bool, true, not, List, [], ◌∷◌, Option, None, Some, Result, Ok, Err, length, slice_get, option_and_then, refl, sym, ap, ◌∙◌, subst, arith}
-use Rattle.std.specs.List.{list_all, position_from}
-use Rattle.std.proofs.lemmas.Option.{none-some}
-use Rattle.std.proofs.lemmas.Iterator.Adapters.{position_from-zero}
 use Rattle.rule_base.specs.declared.program.Program.{Program}
-use Rattle.rule_base.specs.Thin.{is_thin_rule, is_thin}
 use Rattle.ops_text.specs.Names.{Names}
 use Rattle.ops_text.specs.Faults.{Rose}
 use Rattle.ops_reader.specs.declared.form.Form.{Form}
@@ -25,7 +21,6 @@ use Rattle.ops_command.specs.Call.{Files, Call}
 use Rattle.ops_command.specs.Account.{Account, refusal}
 use Rattle.ops_command.specs.FileBytes.{most_bytes, WereRead}
 use Rattle.ops_command.specs.FaultyText.{IsSyntaxError, IsCheckError}
-use Rattle.ops_command.specs.NotBuilt.{rule_forms, unbuilt_form, HasUnbuilt}
 use Rattle.ops_command.specs.ProgramText.{first_names, NamedProgram, Defines, IsFaultyProgram}
 use Rattle.ops_command.specs.MemoryText.{NamedOpening, Opens, IsFaultyMemory}
 use Rattle.ops_command.specs.MemoryFile.{GivesOpening, IsRefusedMemory, OpensAlone}
@@ -115,31 +110,8 @@ long_decided files asked bytes account long (IsRight short named defines said) =
 text_decided : (files : Files) (asked : Asked) (bytes : List ℕ) (account : Account) → length bytes ≤ most_bytes → BytesLedTo files asked bytes account → IsFaultOf checked first_names bytes file.Program account
 text_decided files asked bytes account short (IsLong more is) = absurd (omega (arith, more, short))
 text_decided files asked bytes account short (IsFaulty le (inl wrong)) = syntax_decides checked first_names bytes file.Program account wrong
-text_decided files asked bytes account short (IsFaulty le (inr (inl wrong))) = check_decides checked first_names bytes file.Program account wrong
-text_decided files asked bytes account short (IsFaulty le (inr (inr wrong))) = right_decides checked first_names bytes file.Program account wrong.forms wrong.has.after wrong.has.program wrong.has.text wrong.has.declares
+text_decided files asked bytes account short (IsFaulty le (inr wrong)) = check_decides checked first_names bytes file.Program account wrong
 text_decided files asked bytes account short (IsRight le named defines said) = right_decides checked first_names bytes file.Program account defines.forms named.names named.program defines.text defines.declares
-
--- where each element passes, none fails
-all_pass : {A : Type 0} (p : A → Bool) (i : ℕ) (xs : List A) → list_all p xs ≡ true → position_from (λ x. not (p x)) i xs ≡ None
-all_pass p i [] all = refl
-all_pass p i (x ∷ xs) all = grind (arith, all_pass p (i + 1) xs)
-
--- a thin program has no rule that isn't built
-thin_unbuilt : (forms : List Form) (program : Program) → is_thin program ≡ true → unbuilt_form forms program ≡ None
-thin_unbuilt forms program thin = ap (option_and_then (slice_get (rule_forms 1 forms))) (position_from-zero (λ rule. not (is_thin_rule rule)) program.rules ∙ all_pass is_thin_rule 0 program.rules thin)
-
-unbuilt_decided : (files : Files) (asked : Asked) (bytes : List ℕ) (account : Account) (forms : List Form) (number : ℕ) → length bytes ≤ most_bytes → HasUnbuilt first_names bytes forms number → BytesLedTo files asked bytes account → (at : ℕ) × (account.status ≡ status.NotBuilt at)
-unbuilt_decided files asked bytes account forms number short has (IsLong more is) = absurd (omega (arith, more, short))
-unbuilt_decided files asked bytes account forms number short has (IsFaulty le (inl wrong)) = absurd (one_outcome first_names bytes forms has.after wrong.at wrong.why has.text wrong.refused)
-unbuilt_decided files asked bytes account forms number short has (IsFaulty le (inr (inl wrong))) =
-    let same = one_reading first_names (tokens_of bytes) forms wrong.forms has.after wrong.after has.text wrong.text in
-    absurd (ok_err (sym has.declares ∙ ap checked same.0 ∙ wrong.violated))
-unbuilt_decided files asked bytes account forms number short has (IsFaulty le (inr (inr wrong))) = (wrong.at, under account (status.NotBuilt wrong.at) wrong.said)
-unbuilt_decided files asked bytes account forms number short has (IsRight le named defines said) =
-    let same = one_reading first_names (tokens_of bytes) forms defines.forms has.after named.names has.text defines.text in
-    let program : has.program ≡ named.program = same_ok (sym has.declares ∙ ap checked same.0 ∙ defines.declares) in
-    let none = thin_unbuilt forms has.program (subst (λ (p : Program). is_thin p ≡ true) (sym program) defines.thin) in
-    absurd (none-some number (sym none ∙ has.unbuilt))
 
 -- bytes define one program
 one_program : (bytes : List ℕ) (named other : NamedProgram) → Defines bytes named → Defines bytes other → named ≡ other
@@ -151,14 +123,9 @@ one_program bytes named other defines others =
 program_decided : (files : Files) (asked : Asked) (bytes : List ℕ) (account : Account) (named : NamedProgram) → length bytes ≤ most_bytes → Defines bytes named → BytesLedTo files asked bytes account → ProgramLedTo files asked named account
 program_decided files asked bytes account named short defines (IsLong more is) = absurd (omega (arith, more, short))
 program_decided files asked bytes account named short defines (IsFaulty le (inl wrong)) = absurd (one_outcome first_names bytes defines.forms named.names wrong.at wrong.why defines.text wrong.refused)
-program_decided files asked bytes account named short defines (IsFaulty le (inr (inl wrong))) =
+program_decided files asked bytes account named short defines (IsFaulty le (inr wrong)) =
     let same = one_reading first_names (tokens_of bytes) defines.forms wrong.forms named.names wrong.after defines.text wrong.text in
     absurd (ok_err (sym defines.declares ∙ ap checked same.0 ∙ wrong.violated))
-program_decided files asked bytes account named short defines (IsFaulty le (inr (inr wrong))) =
-    let same = one_reading first_names (tokens_of bytes) wrong.forms defines.forms wrong.has.after named.names wrong.has.text defines.text in
-    let program : wrong.has.program ≡ named.program = same_ok (sym wrong.has.declares ∙ ap checked same.0 ∙ defines.declares) in
-    let none = thin_unbuilt wrong.forms wrong.has.program (subst (λ (p : Program). is_thin p ≡ true) (sym program) defines.thin) in
-    absurd (none-some wrong.number (sym none ∙ wrong.has.unbuilt))
 program_decided files asked bytes account named short defines (IsRight le other others said) = subst (λ (n : NamedProgram). ProgramLedTo files asked n account) (one_program bytes other named others defines) said
 
 -- what is said where a memory file that is told was read
@@ -249,7 +216,6 @@ IsDecided-said call account calm said =
       usage = λ kind faulty. usage_said call.words call.files account kind said faulty;
       program_too_long = λ asked bytes asks long. inl (long_decided call.files asked bytes account long (read asked bytes asks));
       program_text = λ asked bytes asks short. decides checked first_names bytes file.Program account (text_decided call.files asked bytes account short (read asked bytes asks));
-      not_built = λ asked bytes forms number asks short has. let at = unbuilt_decided call.files asked bytes account forms number short has (read asked bytes asks) in (at.0, inl at.1);
       memory_too_long = λ asked named bytes asks long. inl (long_memory_decided named asked.budget bytes account long (loaded asked named bytes asks));
       memory_text = λ asked named bytes asks short. decides (opening_list named.program) named.names bytes file.Memory account (memory_decided named asked.budget bytes account short (loaded asked named bytes asks));
       runs = λ asked named opening asks. inl (from_decided call.files asked named opening account calm.reading asks.told asks.opens (of_program asked named asks.asks));

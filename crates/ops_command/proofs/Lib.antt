@@ -2,7 +2,6 @@ pub mod ChainLemmas
 pub mod ResultLemmas
 pub mod WordLemmas
 pub mod LineLemmas
-pub mod UnbuiltLemmas
 pub mod ReaderLemmas
 pub mod EmptyTextLemmas
 pub mod DecidedLemmas

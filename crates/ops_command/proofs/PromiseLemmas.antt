@@ -34,7 +34,6 @@ can_be_said status.WriteFault = false
 can_be_said (status.TooLong kind) = true
 can_be_said (status.Syntax kind at why) = true
 can_be_said (status.Check kind form why) = true
-can_be_said (status.NotBuilt at) = true
 can_be_said status.OutOfMemory = false
 
 refusal_said : (account : Account) (said : Status) → can_be_said said ≡ true → account ≡ refusal said → can_be_said account.status ≡ true
@@ -50,8 +49,7 @@ program_refused_said files name account (inr read) = by_reason read.bytes read.h
   where
     by_reason : (bytes : List ℕ) → IsFaultyProgram bytes account → can_be_said account.status ≡ true
     by_reason bytes (inl wrong) = refusal_said account (status.Syntax file.Program wrong.at wrong.why) refl wrong.said
-    by_reason bytes (inr (inl wrong)) = refusal_said account (status.Check file.Program wrong.violation.form wrong.violation.kind) refl wrong.said
-    by_reason bytes (inr (inr wrong)) = refusal_said account (status.NotBuilt wrong.at) refl wrong.said
+    by_reason bytes (inr wrong) = refusal_said account (status.Check file.Program wrong.violation.form wrong.violation.kind) refl wrong.said
 
 memory_refused_said : (files : Files) (memory : Option (List ℕ)) (named : NamedProgram) (account : Account) → IsRefusedMemory files memory named account → can_be_said account.status ≡ true
 memory_refused_said files None named account never = absurd never
@@ -95,7 +93,6 @@ IsAnswer-written call report text status.WriteFault says written read no_fault =
 IsAnswer-written call report text (status.TooLong kind) says written read no_fault = record { text = text; is_said = says; written = written; read = read; no_fault = no_fault }
 IsAnswer-written call report text (status.Syntax kind at why) says written read no_fault = record { text = text; is_said = says; written = written; read = read; no_fault = no_fault }
 IsAnswer-written call report text (status.Check kind form why) says written read no_fault = record { text = text; is_said = says; written = written; read = read; no_fault = no_fault }
-IsAnswer-written call report text (status.NotBuilt at) says written read no_fault = record { text = text; is_said = says; written = written; read = read; no_fault = no_fault }
 IsAnswer-written call report text status.OutOfMemory says written read no_fault = absurd (true≢false (sym (words_can_be_said call.words call.files _ says)))
 
 pub KeepsPromise-written : (call : Call) (report : Report) (text : List ℕ) → IsSaid call report text report.status → Extends call.output.held call.output.held_after text

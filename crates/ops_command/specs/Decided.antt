@@ -19,7 +19,6 @@ use Rattle.ops_command.specs.declared.status.Status.TheVariants as status
 use Rattle.ops_command.specs.Words.{Asked, asked_by}
 use Rattle.ops_command.specs.Call.{Call}
 use Rattle.ops_command.specs.FileBytes.{most_bytes}
-use Rattle.ops_command.specs.NotBuilt.{HasUnbuilt}
 use Rattle.ops_command.specs.ProgramText.{first_names, NamedProgram, Defines}
 use Rattle.ops_command.specs.MemoryText.{NamedOpening}
 use Rattle.ops_command.specs.MemoryFile.{GivesOpening}
@@ -72,10 +71,6 @@ pub record IsDecided (call : Call) (said : Status) : Type 0 where
       → IsUnlessOutOfMemory (status.TooLong file.Program) said
   pub program_text : (asked : Asked) (bytes : List ℕ) → AsksToRun call asked bytes → length bytes ≤ most_bytes
       → DecidesText checked first_names bytes file.Program said
-  -- at the place that its cause tells
-  pub not_built : (asked : Asked) (bytes : List ℕ) (forms : List Form) (number : ℕ) → AsksToRun call asked bytes
-      → length bytes ≤ most_bytes → HasUnbuilt first_names bytes forms number
-      → (at : ℕ) × IsUnlessOutOfMemory (status.NotBuilt at) said
   pub memory_too_long : (asked : Asked) (named : NamedProgram) (bytes : List ℕ) → AsksToLoad call asked named bytes
       → most_bytes < length bytes → IsUnlessOutOfMemory (status.TooLong file.Memory) said
   pub memory_text : (asked : Asked) (named : NamedProgram) (bytes : List ℕ) → AsksToLoad call asked named bytes

@@ -14,7 +14,7 @@ pub record Findings : Type 0 where
 
 -- what a report finds
 abbrev pub findings_of : Report → Findings
-findings_of report = record { choices = report.choices; memory = report.memory; next = report.next }
+findings_of report = record { choices = choices_of report.journal.entries; memory = report.memory; next = report.journal.next }
 
 -- what a report of no run says
 abbrev pub no_findings : Findings

@@ -9,7 +9,6 @@ pub mod Words
 pub mod Asking
 pub mod FileBytes
 pub mod FaultyText
-pub mod NotBuilt
 pub mod ProgramText
 pub mod ProgramFile
 pub mod MemoryText
@@ -20,5 +19,4 @@ pub mod Account
 pub mod Refusals
 pub mod EndingWords
 pub mod RunReport
-pub mod Page
 pub mod Findings

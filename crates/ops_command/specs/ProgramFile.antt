@@ -10,6 +10,6 @@ use Rattle.ops_command.specs.ProgramText.{NamedProgram, Defines, IsFaultyProgram
 abbrev pub GivesProgram : (List ℕ → Option (List ℕ)) → List ℕ → NamedProgram → Type 0
 GivesProgram told name named = WereRead told name (λ bytes. Defines bytes named)
 
--- the file with this name gives no program that runs today, and why
+-- the file with this name gives no program, and why
 abbrev pub IsRefusedProgram : Files → List ℕ → Account → Type 0
 IsRefusedProgram files name account = IsUnread files name file.Program account ⊎ WereRead files.told name (λ bytes. IsFaultyProgram bytes account)

@@ -56,5 +56,4 @@ refusal_line (status.ReadFault kind) = codes "ops: cannot read " ++ file_word ki
 refusal_line (status.TooLong kind) = codes "ops: " ++ file_word kind ++ codes " is too long\n"
 refusal_line (status.Syntax kind at why) = syntax_line kind at (syntax_words why)
 refusal_line (status.Check kind form why) = check_line kind form (check_words why)
-refusal_line (status.NotBuilt at) = codes "ops: not built at byte " ++ decimal at ++ codes "\n"
 refusal_line other = []

@@ -7,7 +7,6 @@ mod ending_words;
 mod file_bytes;
 pub mod laws;
 mod memory_file;
-mod page;
 mod plan;
 mod program_file;
 mod refusals;
@@ -15,8 +14,6 @@ mod run;
 mod run_report;
 mod status;
 mod text;
-mod thin;
-mod unbuilt;
 mod words;
 
 pub use command::run_without_threads;

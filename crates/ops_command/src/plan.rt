@@ -4,7 +4,6 @@
 ghost use Rattle.std.specs.Prelude.{◌≡◌, ◌+◌, ◌^◌, ◌<◌, ◌≤◌, ℕ, List, true, length, map, OnOk, IfOk, IfErr};
 ghost use Rattle.std.specs.String.{string_bytes};
 ghost use Rattle.rule_base.specs.Sound.{IsSound};
-ghost use Rattle.rule_base.specs.Thin.{is_thin};
 ghost use Rattle.ops_command.specs.Call.{files_between};
 ghost use Rattle.rule_base.specs.Ending.{IsBudget};
 ghost use Rattle.ops_command.specs.Asking.{asked_of};

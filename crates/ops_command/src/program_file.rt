@@ -11,8 +11,6 @@ ghost use Rattle.ops_command.specs.ProgramFile.{GivesProgram, IsRefusedProgram};
 use crate::file_bytes::read_file;
 use crate::status::{FileKind, Status};
 use crate::text::{check_status, read_text};
-use crate::unbuilt::unbuilt_form;
-use ops_reader::form_place;
 use ops_text::{Shelf, Symbols};
 use rule_base::Program;
 use rule_checker::check;
@@ -57,14 +55,8 @@ fn program_of(alloc: Global, bytes: &[u8], symbols: &mut Symbols) -> Result<Prog
     ensures few_names { length symbols.new ≤ 1 + most_bytes }
 {
     let forms = read_text(alloc, bytes, symbols, FileKind::Program)?;
-    let program = match check(alloc, &forms) {
-        Ok(program) => program,
-        Err(refusal) => return Err(check_status(FileKind::Program, refusal)),
-    };
-    match unbuilt_form(&forms, &program) {
-        Some(form) => Err(Status::NotBuilt {
-            at: form_place(bytes, form),
-        }),
-        None => Ok(program),
+    match check(alloc, &forms) {
+        Ok(program) => Ok(program),
+        Err(refusal) => Err(check_status(FileKind::Program, refusal)),
     }
 }

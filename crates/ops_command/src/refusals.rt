@@ -20,7 +20,6 @@ pub fn refusal_line(alloc: Global, status: &Status) -> Result<String, OutOfMemor
         Status::TooLong { file } => format!(in alloc; "ops: {file} is too long\n"),
         Status::Syntax { file, at, kind } => syntax_line(alloc, *file, *at, syntax_words(*kind)),
         Status::Check { file, form, kind } => check_line(alloc, *file, *form, check_words(*kind)),
-        Status::NotBuilt { at } => format!(in alloc; "ops: not built at byte {at}\n"),
         Status::Quiet
         | Status::Halted
         | Status::Spent { .. }

@@ -4,7 +4,7 @@ ghost use Rattle.std.specs.Prelude.{◌≡◌, ◌++◌, decimal, OnOk, IfOk};
 ghost use Rattle.ops_command.specs.RunReport.{ends_line, whole_lines, summary_line, run_report};
 
 use crate::ending_words::ending_words;
-use crate::page::lay_out;
+use commit_journal::lay_out;
 use firing_core::Core;
 use itoa::Buffer;
 use ops_text::{OutOfMemory, Symbols};
@@ -69,12 +69,11 @@ pub fn run_report(
     ensures { IfOk result
         (λ text. text.items ≡ run_report core.now.program symbols.now ending.now core.now.state) }
 {
-    let firings = core.entries().len() as u64;
     let elements = core.memory().len() as u64;
     let words = ending_words(alloc, core.program(), symbols, ending)?;
-    let mut text = lay_out(alloc, core.entries(), symbols)?;
+    let mut text = lay_out(alloc, core.journal().pieces(), symbols)?;
     end_line(&mut text)?;
-    let line = summary_line(alloc, words.as_slice(), firings, elements, core.next())?;
+    let line = summary_line(alloc, words.as_slice(), core.count(), elements, core.next())?;
     text.extend_from_slice(&line)?;
     Ok(text)
 }

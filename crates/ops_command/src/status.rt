@@ -6,8 +6,9 @@ ghost use Rattle.ops_command.specs.EndingWords.{status_of};
 ghost use Rattle.ops_command.specs.Findings.{findings_of, no_findings};
 ghost use Rattle.ops_command.specs.Refusals.{usage_word, file_word};
 
+use commit_journal::Journal;
 use ops_reader::SyntaxKind;
-use ops_text::{OutOfMemory, Sequence};
+use ops_text::OutOfMemory;
 use rule_base::{Choice, Elements, Ending, FaultCause};
 use rule_checker::CheckKind;
 use std::alloc::Global;
@@ -91,10 +92,6 @@ pub enum Status {
         form: u32,
         kind: CheckKind,
     },
-    /// The program has a rule that doesn't run yet. It begins at this byte.
-    NotBuilt {
-        at: u64,
-    },
     OutOfMemory,
 }
 
@@ -128,14 +125,13 @@ impl From<OutOfMemory> for Status {
     }
 }
 
-/// What a call answers: its status, the instantiations that fired, in order, the working memory in the
-/// end and the next time tag. Where no run ended they are empty, empty and 1.
-#[derive(Debug, Drop)]
+/// What a call answers: its status, the journal of its run, and the working memory in the end. The next
+/// time tag is the journal's. Where no run ended they are empty, and the next tag is 1.
+#[derive(Drop)]
 pub struct Report {
     pub status: Status,
-    pub choices: Sequence<Choice>,
+    pub journal: Journal,
     pub memory: Elements,
-    pub next: u64,
 }
 
 impl Report {
@@ -146,9 +142,8 @@ impl Report {
     {
         Report {
             status,
-            choices: Sequence::new(alloc),
+            journal: Journal::new(alloc, 1),
             memory: Elements::new(alloc),
-            next: 1,
         }
     }
 

@@ -38,7 +38,7 @@ fn a_fault_in_the_middle_is_told(rt: HostRuntime) -> Result<(), Fail> {
         let told = format!(in alloc; "{:?}", report.status)?;
         assert_eq!(rt; told.as_str(), status, "status of {held}");
         assert_eq!(rt; out.held.as_slice(), held.as_bytes(), "text of {held}");
-        assert_eq!(rt; report.choices.len(), firings, "firings of {held}");
+        assert_eq!(rt; report.journal.len(), firings, "firings of {held}");
     }
     Ok(())
 }

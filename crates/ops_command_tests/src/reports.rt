@@ -17,7 +17,7 @@ type Row = (
 
 #[test]
 fn a_call_has_the_status_that_it_tells(rt: HostRuntime) -> Result<(), Fail> {
-    let rows: [Row; 12] = [
+    let rows: [Row; 13] = [
         (
             &["run", "p", "m"],
             "(literalize a x)(make a ^x 1)(p hi (a) --> (write hello))",
@@ -90,10 +90,17 @@ fn a_call_has_the_status_that_it_tells(rt: HostRuntime) -> Result<(), Fail> {
         ),
         (
             &["run", "p"],
-            "(literalize a x)(p r (a ^x 1) --> (halt))",
+            "(literalize a x)(make a ^x 1)(p r (a ^x 1) --> (halt))",
             "",
-            "NotBuilt { at: 16 }",
-            "ops: not built at byte 16\n",
+            "Halted",
+            "; halted, firings 1, elements 1, next 2\n",
+        ),
+        (
+            &["run", "p"],
+            "(literalize a x)(make a ^x 1)(p r (a ^x <v>) --> (write no) (bind <w> (compute <v> // 0)))",
+            "",
+            "Fault { choice: Choice { rule: 0, tags: [1] }, action: 2, cause: DivideByZero }",
+            "; fault, rule r, action 2, divide by zero, tags 1, firings 0, elements 1, next 2\n",
         ),
         (
             &["run", "p", "m"],
@@ -115,9 +122,10 @@ fn a_call_has_the_status_that_it_tells(rt: HostRuntime) -> Result<(), Fail> {
 /// The choices of a report, the elements of its memory and its next tag, in a line.
 fn told(alloc: Global, report: &Report) -> Result<String, OutOfMemory> {
     let mut text = String::new(alloc);
-    for choice in report.choices.as_slice() {
-        let tags = choice.tags.as_slice();
-        text.push_str(&format!(in alloc; "{}{tags:?} ", choice.rule)?)?;
+    for place in 0..report.journal.len() {
+        let entry = report.journal.entry(place);
+        let tags = entry.tags;
+        text.push_str(&format!(in alloc; "{}{tags:?} ", entry.rule)?)?;
     }
     text.push_str("|")?;
     for at in 0..report.memory.len() {
@@ -125,7 +133,7 @@ fn told(alloc: Global, report: &Report) -> Result<String, OutOfMemory> {
         let values = element.values;
         text.push_str(&format!(in alloc; " {}:{}{values:?}", element.tag, element.class)?)?;
     }
-    text.push_str(&format!(in alloc; " | {}", report.next)?)?;
+    text.push_str(&format!(in alloc; " | {}", report.journal.next())?)?;
     Ok(text)
 }
 

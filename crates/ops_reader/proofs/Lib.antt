@@ -38,5 +38,3 @@ pub mod Standing
 pub mod Reached
 pub mod DecidedLemmas
 pub mod ReadLemmas
-pub mod SkipLemmas
-pub mod PassedLemmas

@@ -9,7 +9,6 @@ pub mod LeftOut
 pub mod Refusal
 pub mod Named
 pub mod Shape
-pub mod FormPlace
 -- what reading makes of one more token
 pub mod Taken
 pub mod TestReading

@@ -7,7 +7,6 @@ mod forms;
 mod kind;
 pub mod laws;
 mod part;
-mod place;
 mod read;
 mod refusal;
 mod slot;
@@ -18,6 +17,5 @@ pub use form::{
     At, Form, FormAction, FormArg, FormCond, FormExpr, FormItem, FormOperand, FormTerm, Simple,
 };
 pub use forms::Forms;
-pub use place::form_place;
 pub use read::read_forms;
 pub use refusal::{FormsRefusal, SyntaxKind};

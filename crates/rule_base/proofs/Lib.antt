@@ -12,7 +12,6 @@ pub mod ConflictSetLemmas
 pub mod ListedLemmas
 pub mod OrderLemmas
 pub mod ElementMatchLemmas
-pub mod ThinLemmas
 pub mod MachineLemmas
 pub mod RunLemmas
 pub mod StillFiredLemmas

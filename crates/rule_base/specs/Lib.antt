@@ -29,7 +29,6 @@ pub mod Layout
 pub mod SoundConditions
 pub mod SoundActions
 pub mod Sound
-pub mod Thin
 -- what a run may begin from
 pub mod Base
 -- laws of the match, of runs and of bases

@@ -1,17 +1,13 @@
 -- Laws of steps and runs: a run goes on where another ended, its journal tells it, and each step keeps the state one.
-use Rattle.std.specs.Prelude.{◌≡◌, ◌+◌, ◌≤◌, List, ◌∷◌, ◌++◌, true, false, Some, is_ok, option_and_then}
+use Rattle.std.specs.Prelude.{◌≡◌, ◌+◌, ◌≤◌, List, ◌∷◌, ◌++◌, true, false, Some, option_and_then}
 use Rattle.std.specs.List.{IsDistinct}
-use Rattle.rule_base.specs.declared.element.Element.{Element}
 use Rattle.rule_base.specs.declared.instantiation.Choice.{Choice}
-use Rattle.rule_base.specs.declared.program.Rule.{Rule}
 use Rattle.rule_base.specs.declared.program.Program.{Program}
 use Rattle.rule_base.specs.declared.base.Refraction.TheVariants.{Once, Renewed}
-use Rattle.rule_base.specs.Effect.{effect}
 use Rattle.rule_base.specs.State.{IsState, State, choices_of, has_fired, same_choice}
 use Rattle.rule_base.specs.Step.{is_listed, step}
 use Rattle.rule_base.specs.Run.{run}
 use Rattle.rule_base.specs.Sound.{IsSound, sizes_of}
-use Rattle.rule_base.specs.Thin.{is_thin_rule}
 use Rattle.rule_base.specs.Base.{GoOnMatching}
 
 -- firing choices and then others is one run
@@ -73,7 +69,3 @@ RunsKeepStates = (program : Program) (s : State) (choices : List Choice) (after 
 abbrev pub StepsGiveFewTags : Type 0
 StepsGiveFewTags = (program : Program) (s : State) (c : Choice) (after : State) → IsSound program
     → IsState (sizes_of program.classes) s → step program s c ≡ Some after → after.next ≤ s.next + 64
-
--- the right-hand side of a thin rule never fails
-abbrev pub ThinNeverFails : Type 0
-ThinNeverFails = (rule : Rule) (elements : List Element) → is_thin_rule rule ≡ true → is_ok (effect rule elements) ≡ true

@@ -1,7 +1,7 @@
 //! Laws of the definitions. Each function here does nothing: its contract is the law.
 
 ghost use Rattle.rule_base.specs.MatchLaws.{EachMatches, EachMatchIsListed, BindingsAreTheMatch, ConflictSetIsInOrder, NoneBeforeItself};
-ghost use Rattle.rule_base.specs.RunLaws.{RunsGoOn, RunsAreTold, RunsKeepRefraction, RunsFireOnce, RunsKeepMatching, RunsFireAnew, StepsKeepStates, RunsKeepStates, StepsGiveFewTags, ThinNeverFails};
+ghost use Rattle.rule_base.specs.RunLaws.{RunsGoOn, RunsAreTold, RunsKeepRefraction, RunsFireOnce, RunsKeepMatching, RunsFireAnew, StepsKeepStates, RunsKeepStates, StepsGiveFewTags};
 ghost use Rattle.rule_base.specs.BaseLaws.{OpeningsAreLawful, LawfulBasesAreStates, RunsLeaveBases};
 
 /// The conflict set has the choices that match, and no others.
@@ -52,9 +52,4 @@ pub fn steps_keep_states()
     ensures steps { StepsKeepStates }
     ensures runs { RunsKeepStates }
     ensures few_tags { StepsGiveFewTags }
-{}
-
-/// The right-hand side of a thin rule never fails.
-pub fn thin_rules_never_fail()
-    ensures { ThinNeverFails }
 {}
