@@ -3,14 +3,14 @@ use Rattle.std.proofs.Common.{◌≡◌, List, [], false, refl, ◌∙◌, ap}
 use Rattle.rule_base.specs.declared.instantiation.Choice.{Choice}
 use Rattle.rule_base.specs.State.{State, start}
 use Rattle.rule_base.specs.Step.{still_fired}
-use Rattle.rule_base.specs.Base.{GoOnMatching}
+use Rattle.rule_base.specs.Base.{StillMatch}
 use Rattle.rule_base.proofs.StillFiredLemmas.{still_fired-all, still_fired-twice}
 use Rattle.firing_core.specs.declared.machine.Core.TheInside.{Inside}
 use Rattle.firing_core.specs.CoreFields.{state_in}
 use Rattle.firing_core.proofs.CommitLemmas.{same_state}
 
 -- the fields of a core at its base
-pub state_in-start : (core : Inside) → GoOnMatching core.base.refraction core.program.value core.base.elements core.base.fired → core.memory ≡ core.base.elements → core.journal.next ≡ core.base.next → core.fired.items ≡ core.base.fired → core.journal.entries ≡ [] → core.halted ≡ false → state_in core ≡ start core.base
+pub state_in-start : (core : Inside) → StillMatch core.base.refraction core.program.value core.base.elements core.base.fired → core.memory ≡ core.base.elements → core.journal.next ≡ core.base.next → core.fired.items ≡ core.base.fired → core.journal.entries ≡ [] → core.halted ≡ false → state_in core ≡ start core.base
 state_in-start core matching memory next fired entries halted =
     let refraction = core.base.refraction in
     let program = core.program.value in

@@ -24,7 +24,7 @@ use Rattle.ops_command.specs.FaultyText.{IsSyntaxError, IsCheckError}
 use Rattle.ops_command.specs.ProgramText.{first_names, NamedProgram, Defines, IsFaultyProgram}
 use Rattle.ops_command.specs.MemoryText.{NamedOpening, Opens, IsFaultyMemory}
 use Rattle.ops_command.specs.MemoryFile.{GivesOpening, IsRefusedMemory, OpensAlone}
-use Rattle.ops_command.specs.Ran.{IsOfEnding, Ran, Start, start_of}
+use Rattle.ops_command.specs.Ran.{IsOfEnding, Ran, RunFrom, start_of}
 use Rattle.ops_command.specs.Answer.{ProgramLedTo, RequestLedTo, WordsLedTo}
 use Rattle.ops_command.specs.Decided.{HasNoFault, IsUnlessOutOfMemory, AsksToRun, AsksToRunProgram, AsksToLoad, DecidesText, IsDecided}
 use Rattle.ops_command.proofs.ChainLemmas.{same_ok, same_err}
@@ -135,7 +135,7 @@ data MemoryLedTo (named : NamedProgram) (budget : ℕ) (bytes : List ℕ) (accou
   IsOpened : length bytes ≤ most_bytes → (opening : NamedOpening) → Opens named bytes opening → Ran (start_of budget named opening) account → MemoryLedTo named budget bytes account
 
 -- the status of a run is that of its ending
-IsOfEnding-ran : (from : Start) (account : Account) → Ran from account → IsOfEnding from account.status
+IsOfEnding-ran : (from : RunFrom) (account : Account) → Ran from account → IsOfEnding from account.status
 IsOfEnding-ran from account ran = record { choices = account.found.choices; state = ran.state; end = ran.end; comes = ran.comes; under = ran.under }
 
 -- bytes give one opening memory

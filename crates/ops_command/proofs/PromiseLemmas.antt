@@ -17,7 +17,7 @@ use Rattle.ops_command.specs.MemoryFile.{IsRefusedMemory}
 use Rattle.rule_base.specs.declared.entry.Ending.{Ending}
 use Rattle.rule_base.specs.declared.entry.Ending.TheVariants as ending
 use Rattle.ops_command.specs.EndingWords.{status_of}
-use Rattle.ops_command.specs.Ran.{Start, Ran}
+use Rattle.ops_command.specs.Ran.{RunFrom, Ran}
 use Rattle.ops_command.specs.Answer.{ProgramLedTo, RequestLedTo, WordsLedTo, IsSaid, IsAnswer}
 use Rattle.ops_command.specs.Promise.{KeepsPromise}
 use Rattle.ops_command.proofs.DecidedLemmas.{under}
@@ -66,7 +66,7 @@ ending_said ending.Halted = refl
 ending_said (ending.Spent n) = refl
 ending_said (ending.Fault choice action why) = refl
 
-run_said : (start : Start) (account : Account) → Ran start account → can_be_said account.status ≡ true
+run_said : (start : RunFrom) (account : Account) → Ran start account → can_be_said account.status ≡ true
 run_said start account ran = ap can_be_said ran.under ∙ ending_said ran.end
 
 program_said : (files : Files) (asked : Asked) (named : NamedProgram) (account : Account) → ProgramLedTo files asked named account → can_be_said account.status ≡ true

@@ -18,24 +18,24 @@ use Rattle.ops_command.specs.EndingWords.{status_of}
 use Rattle.ops_command.specs.RunReport.{run_report}
 
 -- what a run begins with: the program, its base, how many firings it may have, and the names of its symbols
-pub record Start : Type 0 where
+pub record RunFrom : Type 0 where
   pub program : Program
   pub base : Base
   pub budget : ℕ
   pub names : Names
 
 -- the start of a program from its opening memory, in which no choice fires twice
-abbrev pub start_of : ℕ → NamedProgram → NamedOpening → Start
+abbrev pub start_of : ℕ → NamedProgram → NamedOpening → RunFrom
 start_of budget named opening =
     record { program = named.program; base = opening_base opening.elements Once; budget = budget; names = opening.names }
 
 -- these choices, fired one after another, lead to the state, which may end so
-pub record ComesTo (from : Start) (choices : List Choice) (state : State) (end : Ending) : Type 0 where
+pub record ComesTo (from : RunFrom) (choices : List Choice) (state : State) (end : Ending) : Type 0 where
   pub ran : run from.program (start from.base) choices ≡ Some state
   pub ends : IsEnding from.program from.budget state end
 
 -- the program ran to an ending
-pub record Ran (from : Start) (account : Account) : Type 0 where
+pub record Ran (from : RunFrom) (account : Account) : Type 0 where
   pub state : State
   pub end : Ending
   pub comes : ComesTo from account.found.choices state end
@@ -45,7 +45,7 @@ pub record Ran (from : Start) (account : Account) : Type 0 where
   pub printed : account.text ≡ run_report from.program from.names end state
 
 -- the status is that of an ending to which some choices lead
-pub record IsOfEnding (from : Start) (said : Status) : Type 0 where
+pub record IsOfEnding (from : RunFrom) (said : Status) : Type 0 where
   pub choices : List Choice
   pub state : State
   pub end : Ending

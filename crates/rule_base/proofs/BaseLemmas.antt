@@ -16,28 +16,28 @@ use Rattle.rule_base.specs.Sound.{IsSound, sizes_of}
 use Rattle.rule_base.specs.State.{IsState, State, base_of, opening_base, same_choice, start}
 use Rattle.rule_base.specs.Step.{born, is_listed, memory_after, step, still_fired, without}
 use Rattle.rule_base.specs.Run.{run}
-use Rattle.rule_base.specs.Base.{FitsRule, GoOnMatching, IsLawfulBase, WasGiven}
+use Rattle.rule_base.specs.Base.{FitsRule, StillMatch, IsLawfulBase, WasGiven}
 use Rattle.rule_base.proofs.EachLemmas.{Each-append, Each-both, Each-filter, Each-weaker}
 use Rattle.rule_base.proofs.ChoiceLemmas.{IsDistinct-filter, IsDistinct-push}
 use Rattle.rule_base.proofs.StepLemmas.{IsStep-from_step, run-by_steps}
 use Rattle.rule_base.proofs.MemoryLemmas.{AllBelow, AllBelow-consecutive}
 use Rattle.rule_base.proofs.MachineLemmas.{IsKeepingStep-sound}
-use Rattle.rule_base.proofs.RunLemmas.{GoOnMatching-step, matches_at_step, unfired_at_step}
+use Rattle.rule_base.proofs.RunLemmas.{StillMatch-step, matches_at_step, unfired_at_step}
 use Rattle.rule_base.proofs.TakenLemmas.{FitsRule-matches}
 
 -- all of a lawful base but that tags are left
 record IsSteady (program : Program) (s : State) : Type 0 where
   memory' : IsMemory (sizes_of program.classes) s.memory
   given : AllByRecursion (λ (e : Element). WasGiven s.next e.tag) s.memory
-  some : 1 ≤ s.next
+  from_one : 1 ≤ s.next
   distinct : IsDistinct same_choice s.fired
   fitting : AllByRecursion (FitsRule program s.next) s.fired
-  matching : GoOnMatching s.refraction program s.memory s.fired
+  matching : StillMatch s.refraction program s.memory s.fired
 
 -- tags from a number on are above each smaller one
-from_one : (first : ℕ) (memory : Memory) → 1 ≤ first → AreConsecutive first (tags_of memory) → AllByRecursion (λ (e : Element). 1 ≤ e.tag) memory
-from_one first [] some consecutive = tt
-from_one first (e ∷ memory) some consecutive = (omega (arith, some, consecutive.0), from_one (first + 1) memory (omega arith) consecutive.1)
+tags_from_one : (first : ℕ) (memory : Memory) → 1 ≤ first → AreConsecutive first (tags_of memory) → AllByRecursion (λ (e : Element). 1 ≤ e.tag) memory
+tags_from_one first [] some consecutive = tt
+tags_from_one first (e ∷ memory) some consecutive = (omega (arith, some, consecutive.0), tags_from_one (first + 1) memory (omega arith) consecutive.1)
 
 no_choices : IsDistinct same_choice []
 unfolding IsDistinct
@@ -49,15 +49,15 @@ IsLawfulBase-opening program elements refraction began =
     let below : AllBelow (length elements + 1) elements = subst (λ n. AllBelow n elements) same (AllBelow-consecutive 1 elements began.consecutive) in
     record {
       memory = began.memory;
-      given = Each-both (λ (e : Element). 1 ≤ e.tag) (λ (e : Element). e.tag < length elements + 1) (λ (e : Element). WasGiven (length elements + 1) e.tag) (λ e some lt. (some, lt)) elements (from_one 1 elements (omega arith) began.consecutive) below;
-      some = omega arith;
+      given = Each-both (λ (e : Element). 1 ≤ e.tag) (λ (e : Element). e.tag < length elements + 1) (λ (e : Element). WasGiven (length elements + 1) e.tag) (λ e some lt. (some, lt)) elements (tags_from_one 1 elements (omega arith) began.consecutive) below;
+      from_one = omega arith;
       few = omega (arith, began.few);
       distinct = no_choices;
       fitting = tt;
       matching = none_matching refraction;
     }
   where
-    none_matching : (r : Refraction) → GoOnMatching r program elements []
+    none_matching : (r : Refraction) → StillMatch r program elements []
     none_matching Once = tt
     none_matching Renewed = tt
 
@@ -102,7 +102,7 @@ IsSteady-step program s c after sound steady steps =
     let next_is : after.next ≡ s.next + length (born s.next made.done.changes) = ap (λ (t : State). t.next) made.commits in
     let later : s.next ≤ after.next = omega (arith, next_is) in
     let some : AllByRecursion (λ (e : Element). 1 ≤ e.tag) after.memory =
-    subst (λ (t : State). AllByRecursion (λ (e : Element). 1 ≤ e.tag) t.memory) (sym made.commits) (from_one_after s made.done steady.some (Each-weaker (λ (e : Element). WasGiven s.next e.tag) (λ (e : Element). 1 ≤ e.tag) (λ e was. was.0) s.memory steady.given)) in
+    subst (λ (t : State). AllByRecursion (λ (e : Element). 1 ≤ e.tag) t.memory) (sym made.commits) (from_one_after s made.done steady.from_one (Each-weaker (λ (e : Element). WasGiven s.next e.tag) (λ (e : Element). 1 ≤ e.tag) (λ e was. was.0) s.memory steady.given)) in
     let fired = s.fired ++ c ∷ [] in
     let fired_is : after.fired ≡ still_fired s.refraction program (memory_after s made.done) fired = ap (λ (t : State). t.fired) made.commits in
     let fits = FitsRule-later program s.next after.next c later (FitsRule-matches program s.next s.memory c sound steady.given (matches_at_step program s c after steps)) in
@@ -110,10 +110,10 @@ IsSteady-step program s c after sound steady steps =
     record {
       memory' = keeps.state.elements;
       given = Each-both (λ (e : Element). 1 ≤ e.tag) (λ (e : Element). e.tag < after.next) (λ (e : Element). WasGiven after.next e.tag) (λ e one lt. (one, lt)) after.memory some keeps.state.below;
-      some = omega (arith, steady.some, later);
+      from_one = omega (arith, steady.from_one, later);
       distinct = subst (IsDistinct same_choice) (sym fired_is) (IsDistinct-still s.refraction program (memory_after s made.done) fired (IsDistinct-push s.fired c steady.distinct (unfired_at_step program s c after steps)));
       fitting = subst (AllByRecursion (FitsRule program after.next)) (sym fired_is) (Each-still (FitsRule program after.next) s.refraction program (memory_after s made.done) fired (Each-append (FitsRule program after.next) s.fired (c ∷ []) others (fits, tt)));
-      matching = GoOnMatching-step program s c after steps;
+      matching = StillMatch-step program s c after steps;
     }
 
 IsSteady-run : (program : Program) → IsSound program → (s : State) (choices : List Choice) (after : State) → run program s choices ≡ Some after → IsSteady program s → IsSteady program after
@@ -121,7 +121,7 @@ IsSteady-run program sound = run-by_steps program (λ s choices after. IsSteady 
 
 IsSteady-start : (program : Program) (base : Base) → IsLawfulBase program base → IsSteady program (start base)
 IsSteady-start program base lawful =
-    record { memory' = lawful.memory; given = lawful.given; some = lawful.some; distinct = lawful.distinct; fitting = lawful.fitting; matching = lawful.matching }
+    record { memory' = lawful.memory; given = lawful.given; from_one = lawful.from_one; distinct = lawful.distinct; fitting = lawful.fitting; matching = lawful.matching }
 
 pub IsState-start : (program : Program) (base : Base) → IsLawfulBase program base → IsState (sizes_of program.classes) (start base)
 IsState-start program base lawful = IsState-steady program (start base) (IsSteady-start program base lawful)
@@ -129,4 +129,4 @@ IsState-start program base lawful = IsState-steady program (start base) (IsStead
 pub IsLawfulBase-run : (program : Program) (base : Base) (choices : List Choice) (after : State) → IsSound program → IsLawfulBase program base → run program (start base) choices ≡ Some after → after.next < 2 ^ 63 → IsLawfulBase program (base_of after)
 IsLawfulBase-run program base choices after sound lawful ran few =
     let steady = IsSteady-run program sound (start base) choices after ran (IsSteady-start program base lawful) in
-    record { memory = steady.memory'; given = steady.given; some = steady.some; few = few; distinct = steady.distinct; fitting = steady.fitting; matching = steady.matching }
+    record { memory = steady.memory'; given = steady.given; from_one = steady.from_one; few = few; distinct = steady.distinct; fitting = steady.fitting; matching = steady.matching }

@@ -63,6 +63,9 @@ differs_by : (c d : Choice) (b : Bool) → same_choice d c ≡ b → same_choice
 differs_by c d false is differs = is
 differs_by c d true is differs = absurd (true≢false (sym (same_choice-itself c) ∙ ap (same_choice c) (sym (same_choice-equal d c is)) ∙ differs))
 
+pub same_choice-differs : (c d : Choice) → same_choice c d ≡ false → same_choice d c ≡ false
+same_choice-differs c d differs = differs_by c d (same_choice d c) refl differs
+
 neither : (a b : Bool) → (a || b) ≡ false → (a ≡ false) × (b ≡ false)
 neither false false is = (refl, refl)
 neither false true is = absurd (let wrong : ⊥ = cc in wrong)
@@ -74,7 +77,7 @@ unfolding IsDistinct
 IsDistinct-push [] c distinct new = (tt, tt)
 IsDistinct-push (d ∷ choices) c distinct new =
     let both = neither (same_choice c d) (list_any (same_choice c) choices) new in
-    (Each-append (λ e. same_choice d e ≡ false) choices (c ∷ []) distinct.0 (differs_by c d (same_choice d c) refl both.0, tt), IsDistinct-push choices c distinct.1 both.1)
+    (Each-append (λ e. same_choice d e ≡ false) choices (c ∷ []) distinct.0 (same_choice-differs c d both.0, tt), IsDistinct-push choices c distinct.1 both.1)
 
 -- and so do fewer
 distinct_first : (p : Choice → Bool) (b : Bool) (d : Choice) (choices : List Choice) → AllByRecursion (λ e. same_choice d e ≡ false) choices → IsDistinct same_choice (filter p choices) → IsDistinct same_choice (cond b (d ∷ filter p choices) (filter p choices))

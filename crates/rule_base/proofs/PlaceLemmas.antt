@@ -5,7 +5,7 @@ use Rattle.std.proofs.lemmas.List.{map-append}
 use Rattle.rule_base.specs.declared.value.Value.{Value}
 use Rattle.rule_base.specs.declared.element.Element.{Element}
 use Rattle.rule_base.specs.declared.elements.Place.{Place}
-use Rattle.rule_base.specs.Places.{AreWithin, IsWithin, element_of, elements_in, left_of, moved_by}
+use Rattle.rule_base.specs.Places.{AreWithin, IsWithin, element_of, elements_in, places_without, moved_by}
 use Rattle.rule_base.specs.Step.{without}
 use Rattle.rule_base.proofs.EachLemmas.{Each-append, Each-filter}
 
@@ -47,9 +47,9 @@ left_first : (values : List Value) (b : Bool) (place : Place) (places : List Pla
 left_first values true place places rest same = ap (λ es. element_of values place ∷ es) same
 left_first values false place places rest same = same
 
-pub elements_in-left : (values : List Value) (places : List Place) (tags : List ℕ) → elements_in values (left_of places tags) ≡ without (elements_in values places) tags
+pub elements_in-left : (values : List Value) (places : List Place) (tags : List ℕ) → elements_in values (places_without places tags) ≡ without (elements_in values places) tags
 elements_in-left values [] tags = refl
-elements_in-left values (place ∷ places) tags = left_first values (not (list_any (λ tag. tag == place.tag) tags)) place (left_of places tags) (without (elements_in values places) tags) (elements_in-left values places tags)
+elements_in-left values (place ∷ places) tags = left_first values (not (list_any (λ tag. tag == place.tag) tags)) place (places_without places tags) (without (elements_in values places) tags) (elements_in-left values places tags)
 
 -- all values are still there where more follow
 pub AreWithin-more : (values more : List Value) (places : List Place) → AreWithin values places → AreWithin (values ++ more) places
@@ -61,15 +61,15 @@ AreWithin-moved values more [] within = tt
 AreWithin-moved values more (place ∷ places) within = (omega (arith, within.0, length-append values more), AreWithin-moved values more places within.1)
 
 -- the elements after a change
-elements_in-change : (values more : List Value) (places others : List Place) (tags : List ℕ) → AreWithin values places → elements_in (values ++ more) (left_of places tags ++ map (moved_by (length values)) others) ≡ without (elements_in values places) tags ++ elements_in more others
+elements_in-change : (values more : List Value) (places others : List Place) (tags : List ℕ) → AreWithin values places → elements_in (values ++ more) (places_without places tags ++ map (moved_by (length values)) others) ≡ without (elements_in values places) tags ++ elements_in more others
 elements_in-change values more places others tags within =
-    map-append (element_of (values ++ more)) (left_of places tags) (map (moved_by (length values)) others)
+    map-append (element_of (values ++ more)) (places_without places tags) (map (moved_by (length values)) others)
     ∙ ap (λ es. es ++ elements_in (values ++ more) (map (moved_by (length values)) others)) (elements_in-left (values ++ more) places tags ∙ ap (λ es. without es tags) (elements_in-more values more places within))
     ∙ ap (λ es. without (elements_in values places) tags ++ es) (elements_in-moved values more others)
 
-AreWithin-change : (values more : List Value) (places others : List Place) (tags : List ℕ) → AreWithin values places → AreWithin more others → AreWithin (values ++ more) (left_of places tags ++ map (moved_by (length values)) others)
+AreWithin-change : (values more : List Value) (places others : List Place) (tags : List ℕ) → AreWithin values places → AreWithin more others → AreWithin (values ++ more) (places_without places tags ++ map (moved_by (length values)) others)
 AreWithin-change values more places others tags within more_within =
-    Each-append (IsWithin (values ++ more)) (left_of places tags) (map (moved_by (length values)) others) (Each-filter (IsWithin (values ++ more)) (λ (place : Place). not (list_any (λ tag. tag == place.tag) tags)) places (AreWithin-more values more places within)) (AreWithin-moved values more others more_within)
+    Each-append (IsWithin (values ++ more)) (places_without places tags) (map (moved_by (length values)) others) (Each-filter (IsWithin (values ++ more)) (λ (place : Place). not (list_any (λ tag. tag == place.tag) tags)) places (AreWithin-more values more places within)) (AreWithin-moved values more others more_within)
 
 -- and after an element more
 elements_in-push : (values more : List Value) (places : List Place) (place : Place) → AreWithin values places → place.start ≡ length values → place.size ≡ length more → elements_in (values ++ more) (places ++ place ∷ []) ≡ elements_in values places ++ record { tag = place.tag; class = place.class; values = more } ∷ []
@@ -89,10 +89,10 @@ pub elements_in-pushed : (values more now : List Value) (places after : List Pla
 elements_in-pushed values more now places after place within now_is after_is start size =
     ap (λ vs. elements_in vs after) now_is ∙ ap (elements_in (values ++ more)) after_is ∙ elements_in-push values more places place within start size
 
-pub elements_in-changed : (values more now : List Value) (places others after : List Place) (tags : List ℕ) → AreWithin values places → now ≡ values ++ more → after ≡ left_of places tags ++ map (moved_by (length values)) others → elements_in now after ≡ without (elements_in values places) tags ++ elements_in more others
+pub elements_in-changed : (values more now : List Value) (places others after : List Place) (tags : List ℕ) → AreWithin values places → now ≡ values ++ more → after ≡ places_without places tags ++ map (moved_by (length values)) others → elements_in now after ≡ without (elements_in values places) tags ++ elements_in more others
 elements_in-changed values more now places others after tags within now_is after_is =
     ap (λ vs. elements_in vs after) now_is ∙ ap (elements_in (values ++ more)) after_is ∙ elements_in-change values more places others tags within
 
-pub AreWithin-changed : (values more now : List Value) (places others after : List Place) (tags : List ℕ) → AreWithin values places → AreWithin more others → now ≡ values ++ more → after ≡ left_of places tags ++ map (moved_by (length values)) others → AreWithin now after
+pub AreWithin-changed : (values more now : List Value) (places others after : List Place) (tags : List ℕ) → AreWithin values places → AreWithin more others → now ≡ values ++ more → after ≡ places_without places tags ++ map (moved_by (length values)) others → AreWithin now after
 AreWithin-changed values more now places others after tags within more_within now_is after_is =
     subst (λ vs. AreWithin vs after) (sym now_is) (subst (AreWithin (values ++ more)) (sym after_is) (AreWithin-change values more places others tags within more_within))

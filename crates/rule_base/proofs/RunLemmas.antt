@@ -1,6 +1,6 @@
 -- What a run leaves: its journal, its refraction, and the choices that have fired under each.
 use Rattle.std.proofs.Common.{◌≡◌, Bool, true, false, not, ◌&&◌, ◌||◌, List, [], ◌∷◌, ◌++◌, Option, Some, None, option_and_then, refl, sym, ap, ◌∙◌, subst, true≢false, append_assoc, append-nil}
-use Rattle.std.specs.List.{IsDistinct, list_any}
+use Rattle.std.specs.List.{AllByRecursion, IsDistinct, list_any}
 use Rattle.std.proofs.lemmas.List.{map-append}
 use Rattle.rule_base.specs.declared.instantiation.Choice.{Choice}
 use Rattle.rule_base.specs.declared.entry.Entry.{Entry}
@@ -11,11 +11,11 @@ use Rattle.rule_base.specs.Memory.{Memory}
 use Rattle.rule_base.specs.State.{State, choices_of, same_choice, has_fired}
 use Rattle.rule_base.specs.Step.{entry_of, is_listed, matches, memory_after, step, still_fired}
 use Rattle.rule_base.specs.Run.{run}
-use Rattle.rule_base.specs.Base.{GoOnMatching}
+use Rattle.rule_base.specs.Base.{StillMatch}
 use Rattle.rule_base.specs.RunLaws.{FiresOnce, HasStopped}
 use Rattle.rule_base.proofs.AmongLemmas.{any_append_left, any_append_right}
-use Rattle.rule_base.proofs.ChoiceLemmas.{IsDistinct-push, any_filter, same_choice-itself}
-use Rattle.rule_base.proofs.EachLemmas.{Each-filtered}
+use Rattle.rule_base.proofs.ChoiceLemmas.{any_filter, same_choice-differs, same_choice-itself}
+use Rattle.rule_base.proofs.EachLemmas.{Each-filtered, Each-weaker}
 use Rattle.rule_base.proofs.StepLemmas.{IsStep, IsStep-from_step, none_is_no_some, run-by_steps}
 
 -- a choice that may be fired has not fired
@@ -64,43 +64,57 @@ refraction-run program = run-by_steps program (λ s choices after. after.refract
 
 -- under `Once` what fires stays fired
 FiresOnce-nothing : (s : State) → FiresOnce s [] s
-FiresOnce-nothing s = record {
-  fired = sym (append-nil s.fired);
-  stays = λ c fired. fired;
-  once = λ distinct. distinct;
-}
+unfolding IsDistinct
+FiresOnce-nothing s = record { fired = sym (append-nil s.fired); stays = λ c fired. fired; apart = tt; new = tt }
 
 fired_once : (program : Program) (s : State) (c : Choice) (after : State) → s.refraction ≡ Once → step program s c ≡ Some after → after.fired ≡ s.fired ++ c ∷ []
 fired_once program s c after once steps =
     let made = IsStep-from_step program s c after steps in
     fired_after program s c after made ∙ ap (λ r. still_fired r program (memory_after s made.done) (s.fired ++ c ∷ [])) once
 
+-- a choice that is not among some choices and one more
+differs_from : (d c : Choice) (fired : List Choice) → list_any (same_choice d) (fired ++ c ∷ []) ≡ false → (list_any (same_choice d) fired ≡ false) × (same_choice c d ≡ false)
+differs_from d c fired none =
+    (none_before (list_any (same_choice d) fired) refl, same_choice-differs d c (none_last (same_choice d c) refl))
+  where
+    none_before : (b : Bool) → list_any (same_choice d) fired ≡ b → list_any (same_choice d) fired ≡ false
+    none_before false is = is
+    none_before true is = absurd (true≢false (sym (any_append_left (same_choice d) fired (c ∷ []) is) ∙ none))
+
+    none_last : (b : Bool) → same_choice d c ≡ b → same_choice d c ≡ false
+    none_last false is = is
+    none_last true is = absurd (true≢false (sym (any_append_right (same_choice d) fired (c ∷ []) (let here : (same_choice d c || false) ≡ true = rw is refl in here)) ∙ none))
+
 FiresOnce-first : (program : Program) (s t after : State) (c : Choice) (choices : List Choice) → step program s c ≡ Some t → (t.refraction ≡ Once → FiresOnce t choices after) → s.refraction ≡ Once → FiresOnce s (c ∷ choices) after
+unfolding IsDistinct
 FiresOnce-first program s t after c choices steps later once =
     let rest = later (refraction-step program s c t steps ∙ once) in
     let here = fired_once program s c t once steps in
-    let joined = one_more t.fired s.fired c choices here in
+    let others : AllByRecursion (λ (d : Choice). (list_any (same_choice d) s.fired ≡ false) × (same_choice c d ≡ false)) choices =
+    Each-weaker (λ (d : Choice). has_fired t d ≡ false) (λ (d : Choice). (list_any (same_choice d) s.fired ≡ false) × (same_choice c d ≡ false))
+    (λ d none. differs_from d c s.fired (subst (λ (cs : List Choice). list_any (same_choice d) cs ≡ false) here none)) choices rest.new in
     record {
-      fired = rest.fired ∙ joined;
+      fired = rest.fired ∙ one_more t.fired s.fired c choices here;
       stays = λ d fired. rest.stays d (subst (λ (cs : List Choice). list_any (same_choice d) cs ≡ true) (sym here) (any_append_left (same_choice d) s.fired (c ∷ []) fired));
-      once = λ distinct. rest.once (subst (IsDistinct same_choice) (sym here) (IsDistinct-push s.fired c distinct (unfired_at_step program s c t steps)));
+      apart = (Each-weaker (λ (d : Choice). (list_any (same_choice d) s.fired ≡ false) × (same_choice c d ≡ false)) (λ (d : Choice). same_choice c d ≡ false) (λ d both. both.1) choices others, rest.apart);
+      new = (unfired_at_step program s c t steps, Each-weaker (λ (d : Choice). (list_any (same_choice d) s.fired ≡ false) × (same_choice c d ≡ false)) (λ (d : Choice). has_fired s d ≡ false) (λ d both. both.0) choices others);
     }
 
 pub FiresOnce-run : (program : Program) (s : State) (choices : List Choice) (after : State) → run program s choices ≡ Some after → s.refraction ≡ Once → FiresOnce s choices after
 FiresOnce-run program = run-by_steps program (λ s choices after. s.refraction ≡ Once → FiresOnce s choices after) (λ s once. FiresOnce-nothing s) (FiresOnce-first program)
 
 -- what stays fired under `Renewed` is in the conflict set
-pub GoOnMatching-still : (r : Refraction) (program : Program) (memory : Memory) (fired : List Choice) → GoOnMatching r program memory (still_fired r program memory fired)
-GoOnMatching-still Once program memory fired = tt
-GoOnMatching-still Renewed program memory fired = Each-filtered (is_listed program memory) fired
+pub StillMatch-still : (r : Refraction) (program : Program) (memory : Memory) (fired : List Choice) → StillMatch r program memory (still_fired r program memory fired)
+StillMatch-still Once program memory fired = tt
+StillMatch-still Renewed program memory fired = Each-filtered (is_listed program memory) fired
 
-pub GoOnMatching-step : (program : Program) (s : State) (c : Choice) (after : State) → step program s c ≡ Some after → GoOnMatching after.refraction program after.memory after.fired
-GoOnMatching-step program s c after steps =
+pub StillMatch-step : (program : Program) (s : State) (c : Choice) (after : State) → step program s c ≡ Some after → StillMatch after.refraction program after.memory after.fired
+StillMatch-step program s c after steps =
     let made = IsStep-from_step program s c after steps in
-    subst (λ (t : State). GoOnMatching t.refraction program t.memory t.fired) (sym made.commits) (GoOnMatching-still s.refraction program (memory_after s made.done) (s.fired ++ c ∷ []))
+    subst (λ (t : State). StillMatch t.refraction program t.memory t.fired) (sym made.commits) (StillMatch-still s.refraction program (memory_after s made.done) (s.fired ++ c ∷ []))
 
-pub GoOnMatching-run : (program : Program) (s : State) (choices : List Choice) (after : State) → run program s choices ≡ Some after → GoOnMatching s.refraction program s.memory s.fired → GoOnMatching after.refraction program after.memory after.fired
-GoOnMatching-run program = run-by_steps program (λ s choices after. GoOnMatching s.refraction program s.memory s.fired → GoOnMatching after.refraction program after.memory after.fired) (λ s matching. matching) (λ s t after c choices steps rest matching. rest (GoOnMatching-step program s c t steps))
+pub StillMatch-run : (program : Program) (s : State) (choices : List Choice) (after : State) → run program s choices ≡ Some after → StillMatch s.refraction program s.memory s.fired → StillMatch after.refraction program after.memory after.fired
+StillMatch-run program = run-by_steps program (λ s choices after. StillMatch s.refraction program s.memory s.fired → StillMatch after.refraction program after.memory after.fired) (λ s matching. matching) (λ s t after c choices steps rest matching. rest (StillMatch-step program s c t steps))
 
 -- under `Renewed` a choice that has fired, or fires now, is fired after a step, or isn't in the conflict set any more
 stays_fired : (program : Program) (s : State) (d c : Choice) (after : State) → s.refraction ≡ Renewed → step program s d ≡ Some after → list_any (same_choice c) (s.fired ++ d ∷ []) ≡ true → is_listed program after.memory c ≡ true → has_fired after c ≡ true

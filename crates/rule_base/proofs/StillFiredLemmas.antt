@@ -9,11 +9,11 @@ use Rattle.rule_base.specs.Memory.{Memory, Rises, tags_of}
 use Rattle.rule_base.specs.ConflictSet.{conflict_set}
 use Rattle.rule_base.specs.State.{same_choice}
 use Rattle.rule_base.specs.Step.{is_listed, matches, still_fired}
-use Rattle.rule_base.specs.Base.{GoOnMatching}
+use Rattle.rule_base.specs.Base.{StillMatch}
 use Rattle.rule_base.proofs.ChoiceLemmas.{any_filter, any_filtered, same_choice-equal}
 use Rattle.rule_base.proofs.ConflictSetLemmas.{AllMatch-conflict_set}
 use Rattle.rule_base.proofs.ListedLemmas.{list_any-matches}
-use Rattle.rule_base.proofs.RunLemmas.{GoOnMatching-still}
+use Rattle.rule_base.proofs.RunLemmas.{StillMatch-still}
 
 -- two tests of which each holds where the other does are the same
 both_ways : (a b : Bool) → (a ≡ true → b ≡ true) → (b ≡ true → a ≡ true) → a ≡ b
@@ -31,12 +31,12 @@ filter_all p [] each = refl
 filter_all p (x ∷ xs) each = filter_first (p x) x (filter p xs) xs each.0 (filter_all p xs each.1)
 
 -- what goes on matching stays fired
-pub still_fired-all : (r : Refraction) (program : Program) (memory : Memory) (fired : List Choice) → GoOnMatching r program memory fired → still_fired r program memory fired ≡ fired
+pub still_fired-all : (r : Refraction) (program : Program) (memory : Memory) (fired : List Choice) → StillMatch r program memory fired → still_fired r program memory fired ≡ fired
 still_fired-all Once program memory fired matching = refl
 still_fired-all Renewed program memory fired matching = filter_all (is_listed program memory) fired matching
 
 pub still_fired-twice : (r : Refraction) (program : Program) (memory : Memory) (fired : List Choice) → still_fired r program memory (still_fired r program memory fired) ≡ still_fired r program memory fired
-still_fired-twice r program memory fired = still_fired-all r program memory (still_fired r program memory fired) (GoOnMatching-still r program memory fired)
+still_fired-twice r program memory fired = still_fired-all r program memory (still_fired r program memory fired) (StillMatch-still r program memory fired)
 
 -- a choice of the conflict set has fired where it is among all that have
 pub still_fired-listed : (r : Refraction) (program : Program) (memory : Memory) (fired : List Choice) (c : Choice) → is_listed program memory c ≡ true → list_any (same_choice c) (still_fired r program memory fired) ≡ list_any (same_choice c) fired

@@ -23,18 +23,18 @@ pub record FitsRule (program : Program) (next : ℕ) (c : Choice) : Type 0 where
   pub positives : option_map (λ (rule : Rule). rule.positives) (slice_get program.rules c.rule) ≡ Some (length c.tags)
   pub given : AllByRecursion (WasGiven next) c.tags
 
--- under `Renewed` what has fired is in the conflict set
-abbrev pub GoOnMatching : Refraction → Program → Memory → List Choice → Type 0
-GoOnMatching Once program elements fired = Unit {0}
-GoOnMatching Renewed program elements fired = AllByRecursion (λ (c : Choice). is_listed program elements c ≡ true) fired
+-- under `Renewed` the fired choices are in the conflict set
+abbrev pub StillMatch : Refraction → Program → Memory → List Choice → Type 0
+StillMatch Once program elements fired = Unit {0}
+StillMatch Renewed program elements fired = AllByRecursion (λ (c : Choice). is_listed program elements c ≡ true) fired
 
 -- a run of the program may begin from the base
 pub record IsLawfulBase (program : Program) (base : Base) : Type 0 where
   pub memory : IsMemory (sizes_of program.classes) base.elements
   pub given : AllByRecursion (λ (e : Element). WasGiven base.next e.tag) base.elements
-  pub some : 1 ≤ base.next
+  pub from_one : 1 ≤ base.next
   pub few : base.next < 2 ^ 63
   -- no choice has fired twice
   pub distinct : IsDistinct same_choice base.fired
   pub fitting : AllByRecursion (FitsRule program base.next) base.fired
-  pub matching : GoOnMatching base.refraction program base.elements base.fired
+  pub matching : StillMatch base.refraction program base.elements base.fired

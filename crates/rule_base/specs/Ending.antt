@@ -10,7 +10,7 @@ use Rattle.rule_base.specs.ConflictSet.{conflict_set}
 use Rattle.rule_base.specs.State.{State, count, has_fired, IsUnfired}
 use Rattle.rule_base.specs.Step.{effect_of, is_listed}
 
--- whether every choice of the conflict set has fired
+-- whether every choice of the conflict set is among the fired ones
 abbrev pub is_quiet : Program → State → Bool
 is_quiet program s = list_all (has_fired s) (conflict_set program s.memory)
 

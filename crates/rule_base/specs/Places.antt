@@ -25,5 +25,5 @@ abbrev pub moved_by : ℕ → Place → Place
 moved_by by place = record place { start = by + place.start }
 
 -- the places without those of the elements with these tags
-abbrev pub left_of : List Place → List ℕ → List Place
-left_of places tags = filter (λ (place : Place). not (list_any (λ tag. tag == place.tag) tags)) places
+abbrev pub places_without : List Place → List ℕ → List Place
+places_without places tags = filter (λ (place : Place). not (list_any (λ tag. tag == place.tag) tags)) places

@@ -1,6 +1,6 @@
 -- Laws of steps and runs: a run goes on where another ended, its journal tells it, and each step keeps the state one.
 use Rattle.std.specs.Prelude.{◌≡◌, ◌+◌, ◌≤◌, List, ◌∷◌, ◌++◌, true, false, Some, option_and_then}
-use Rattle.std.specs.List.{IsDistinct}
+use Rattle.std.specs.List.{AllByRecursion, IsDistinct}
 use Rattle.rule_base.specs.declared.instantiation.Choice.{Choice}
 use Rattle.rule_base.specs.declared.program.Program.{Program}
 use Rattle.rule_base.specs.declared.base.Refraction.TheVariants.{Once, Renewed}
@@ -8,7 +8,7 @@ use Rattle.rule_base.specs.State.{IsState, State, choices_of, has_fired, same_ch
 use Rattle.rule_base.specs.Step.{is_listed, step}
 use Rattle.rule_base.specs.Run.{run}
 use Rattle.rule_base.specs.Sound.{IsSound, sizes_of}
-use Rattle.rule_base.specs.Base.{GoOnMatching}
+use Rattle.rule_base.specs.Base.{StillMatch}
 
 -- firing choices and then others is one run
 abbrev pub RunsGoOn : Type 0
@@ -25,23 +25,25 @@ abbrev pub RunsKeepRefraction : Type 0
 RunsKeepRefraction = (program : Program) (s : State) (choices : List Choice) (after : State)
     → run program s choices ≡ Some after → after.refraction ≡ s.refraction
 
--- what has fired stays so, what fires is added in order, and nothing fires twice
+-- what has fired stays so, what fires is added in order, and nothing fires twice: no two of the choices are the same,
+-- and none had fired before
 pub record FiresOnce (s : State) (choices : List Choice) (after : State) : Type 0 where
   pub fired : after.fired ≡ s.fired ++ choices
   pub stays : (c : Choice) → has_fired s c ≡ true → has_fired after c ≡ true
-  pub once : IsDistinct same_choice s.fired → IsDistinct same_choice after.fired
+  pub apart : IsDistinct same_choice choices
+  pub new : AllByRecursion (λ (c : Choice). has_fired s c ≡ false) choices
 
 -- under `Once`
 abbrev pub RunsFireOnce : Type 0
 RunsFireOnce = (program : Program) (s : State) (choices : List Choice) (after : State)
     → s.refraction ≡ Once → run program s choices ≡ Some after → FiresOnce s choices after
 
--- under `Renewed` what has fired goes on matching
+-- under `Renewed` the fired choices go on matching; after a step they do so whatever was before it
 abbrev pub RunsKeepMatching : Type 0
-RunsKeepMatching = (program : Program) (s : State) (choices : List Choice) (after : State) → GoOnMatching s.refraction program s.memory s.fired
-    → run program s choices ≡ Some after → GoOnMatching after.refraction program after.memory after.fired
+RunsKeepMatching = (program : Program) (s : State) (choices : List Choice) (after : State) → StillMatch s.refraction program s.memory s.fired
+    → run program s choices ≡ Some after → StillMatch after.refraction program after.memory after.fired
 
--- the choice fired, and after some of the firings between it was not in the conflict set
+-- the choice fired, and after its own firing or one of those between it was not in the conflict set
 pub record HasStopped (program : Program) (s : State) (c : Choice) (between : List Choice) : Type 0 where
   pub front : List Choice
   pub back : List Choice

@@ -9,8 +9,8 @@ use Rattle.rule_base.specs.declared.base.Refraction.{Refraction}
 use Rattle.rule_base.specs.declared.base.Base.{Base}
 use Rattle.rule_base.specs.Memory.{Memory, IsMemory}
 
--- the working memory, the next time tag, the choices that have fired and the journal's entries, both in order,
--- whether a firing has halted, and the refraction
+-- the working memory, the next time tag, the fired choices, which are those that stay fired, the journal's entries in
+-- order, whether a firing has halted, and the refraction
 pub record State : Type 0 where
   pub memory : Memory
   pub next : ℕ
@@ -46,7 +46,8 @@ opening_base elements refraction = record { elements = elements; next = length e
 abbrev pub opening : Memory → Refraction → State
 opening elements refraction = start (opening_base elements refraction)
 
--- the base that a state gives: a run may go on from here, with a journal of its own
+-- the base that a state gives, from which a run may go on with a journal of its own; whether a firing has halted is no
+-- part of it, so that whoever goes on asks for that
 abbrev pub base_of : State → Base
 base_of s = record { elements = s.memory; next = s.next; fired = s.fired; refraction = s.refraction }
 
@@ -58,10 +59,10 @@ same_tags = bytes_eq
 abbrev pub same_choice : Choice → Choice → Bool
 same_choice c d = (c.rule == d.rule) && same_tags c.tags d.tags
 
--- refraction: whether the choice, an instantiation told by its rule and its tags, is among those that have fired
+-- refraction: whether the choice, an instantiation told by its rule and its tags, is among the fired ones
 abbrev pub has_fired : State → Choice → Bool
 has_fired s c = list_any (same_choice c) s.fired
 
--- the choice has not fired
+-- the choice is not among the fired ones
 abbrev pub IsUnfired : State → Choice → Type 0
 IsUnfired s c = has_fired s c ≡ false

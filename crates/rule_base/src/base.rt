@@ -14,13 +14,13 @@ use std::alloc::Global;
 pub enum Refraction {
     /// For good: it never fires again.
     Once,
-    /// While it goes on matching: it may fire again once it has stopped to match. Time tags never
-    /// come back, so it can match anew only where a negated condition element was in its way.
+    /// While it goes on matching: once it has stopped matching it may fire again. Time tags never come
+    /// back, so it can match anew only where a negated condition element was in its way.
     Renewed,
 }
 
-/// Where a run begins: the elements of the working memory, the next time tag, the instantiations that
-/// have fired before, and the refraction.
+/// Where a run begins: the elements of the working memory, the next time tag, the fired choices, which
+/// are those that stay fired from before, and the refraction.
 #[derive(Debug, Drop)]
 pub struct Base {
     pub elements: Elements,

@@ -6,7 +6,7 @@ ghost use Rattle.std.specs.List.{list_any};
 ghost use Rattle.rule_base.specs.Memory.{element_at};
 ghost use Rattle.rule_base.specs.Step.{without};
 ghost use Rattle.rule_base.specs.Views.{element_in};
-ghost use Rattle.rule_base.specs.Places.{IsWithin, element_of, left_of, moved_by};
+ghost use Rattle.rule_base.specs.Places.{AreWithin, IsWithin, element_of, places_without, moved_by};
 
 use crate::{Element, ElementView, Value};
 use ops_text::{OutOfMemory, Sequence};
@@ -74,7 +74,8 @@ impl Elements {
         Ok(elements)
     }
 
-    /// Elements equal to these. Two blocks are copied, however many elements there are.
+    /// Elements equal to these. Two blocks are copied, however many elements there are, with the values
+    /// of those that `change` took away.
     pub fn copy(&self, alloc: Global) -> Result<Elements, OutOfMemory>
         ensures { IfOk result (λ copy. copy ≡ self.now) }
     {
@@ -157,9 +158,10 @@ impl Elements {
         ensures ok { OnOk result (self.new ≡ without self.old gone.now ++ born.now) }
         ensures err { OnErr result (self.new ≡ self.old) }
     {
-        let places = moved_by(alloc, self.values.len(), born.places.as_slice())?;
+        let values = born.values.as_slice();
+        let places = moved_by(alloc, self.values.len(), born.places.as_slice(), values)?;
         self.places.reserve(places.len())?;
-        self.values.extend_from_slice(born.values.as_slice())?;
+        self.values.extend_from_slice(values)?;
         // From here on nothing fails.
         replace(&mut self.places, gone, places);
         Ok(())
@@ -178,15 +180,20 @@ fn view(values: &[Value], place: Place) -> ElementView<'_>
     }
 }
 
-/// The places, each so far behind.
-fn moved_by(alloc: Global, by: usize, places: &[Place]) -> Result<Vec<Place>, OutOfMemory>
+/// The places among these values, each so far behind.
+fn moved_by(
+    alloc: Global,
+    by: usize,
+    places: &[Place],
+    values: &[Value],
+) -> Result<Vec<Place>, OutOfMemory>
+    requires within { AreWithin values.now places.now }
+    requires few { by + length values.now < 2 ^ 64 }
     ensures { IfOk result (λ moved. moved.items ≡ map (moved_by by) places.now) }
 {
     let mut moved = Vec::new(alloc);
     for place in places {
-        let Some(start) = by.checked_add(place.start) else {
-            return Err(OutOfMemory);
-        };
+        let start = by + place.start;
         moved.push(Place { start, ..*place })?;
     }
     Ok(moved)
@@ -196,7 +203,7 @@ fn moved_by(alloc: Global, by: usize, places: &[Place]) -> Result<Vec<Place>, Ou
 /// needs, and takes none.
 fn replace(places: &mut Vec<Place>, gone: &[u64], others: Vec<Place>)
     requires { vec_len places.old + vec_len others ≤ vec_capacity places.old }
-    ensures { places.new.items ≡ left_of places.old.items gone.now ++ others.items }
+    ensures { places.new.items ≡ places_without places.old.items gone.now ++ others.items }
 {
     remove(places, gone);
     let mut others = others;
@@ -205,7 +212,7 @@ fn replace(places: &mut Vec<Place>, gone: &[u64], others: Vec<Place>)
 
 /// Takes the places of the elements with these tags away.
 fn remove(places: &mut Vec<Place>, gone: &[u64])
-    ensures left { places.new.items ≡ left_of places.old.items gone.now }
+    ensures left { places.new.items ≡ places_without places.old.items gone.now }
     ensures fewer { vec_len places.new ≤ vec_len places.old }
     ensures room { vec_capacity places.new ≡ vec_capacity places.old }
 {

@@ -29,7 +29,7 @@ pub enum FaultCause {
 /// How a run ends.
 #[derive(Debug, Drop)]
 pub enum Ending {
-    /// Every instantiation of the conflict set has fired.
+    /// Every instantiation of the conflict set is among the fired ones.
     Quiet,
     /// A firing halted.
     Halted,

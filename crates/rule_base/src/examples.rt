@@ -5,7 +5,7 @@ ghost use Rattle.rule_base.specs.Examples.Predicates.{AreColumns, AreRows};
 ghost use Rattle.rule_base.specs.Examples.Matches.{AreAcceptances, AreMatches, AreConflictSets};
 ghost use Rattle.rule_base.specs.Examples.Effects.{AreComputed, AreEffects, AreTrees, EachTreeIsWritten};
 ghost use Rattle.rule_base.specs.Examples.Firings.{AreRuns, AreTags, AreEntries, AreEndings};
-ghost use Rattle.rule_base.specs.Examples.Bases.{AreRenewals, AreFromBases, AreLawful, AreUnlawful};
+ghost use Rattle.rule_base.specs.Examples.Bases.{AreRenewals, AreForgotten, AreFromBases, AreLawful, AreUnlawful};
 ghost use Rattle.rule_base.specs.Examples.Layouts.{AreLayouts};
 ghost use Rattle.rule_base.specs.Examples.Soundness.{AreSound, AreUnsound};
 
@@ -52,7 +52,8 @@ pub fn endings()
 
 /// One program under both refractions.
 pub fn refractions()
-    ensures { AreRenewals }
+    ensures renewals { AreRenewals }
+    ensures forgotten { AreForgotten }
 {}
 
 /// Runs from a base, and which bases are lawful.

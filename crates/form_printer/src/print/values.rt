@@ -38,11 +38,7 @@ fn is_bare(name: &[u8]) -> bool
 /// Appends the canonical text of the symbol with this number: bare where it reads back so, and else
 /// between bars.
 #[tactic(auto, unfolding(crate::specs::CanonicalValues::symbol_text))]
-pub fn print_symbol(
-    number: u32,
-    symbols: &Symbols,
-    out: &mut Vec<u8>,
-) -> Result<(), OutOfMemory>
+pub fn print_symbol(number: u32, symbols: &Symbols, out: &mut Vec<u8>) -> Result<(), OutOfMemory>
     ensures { OnOk result
         (out.new.items ≡ out.old.items ++ symbol_text symbols.now number) }
 {
