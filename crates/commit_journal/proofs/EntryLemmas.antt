@@ -12,7 +12,8 @@ use Rattle.rule_base.specs.declared.change.Tagged.TheVariants.{Gone, Born}
 use Rattle.rule_base.specs.declared.entry.Entry.{Entry}
 use Rattle.commit_journal.specs.declared.firing.Firing.{Firing}
 use Rattle.commit_journal.specs.Lists.{RiseTo, cut}
-use Rattle.commit_journal.specs.Entries.{Parts, born_by, born_ends, born_in, entries_of, entry_of, entry_with, firing_before, pieces_of}
+use Rattle.commit_journal.specs.Entries.{born_by, born_in, entry_with, pieces_of}
+use Rattle.commit_journal.specs.Firings.{Parts, born_ends, entries_of, entry_of, firing_before}
 use Rattle.commit_journal.proofs.CutLemmas.{RiseTo-at, RiseTo-drop, RiseTo-range, cut-push, cut-range, cut_from-drop, flat_map-cut, flat_map-cut_from, length-cut_from, places_before, slice_get-cut_from}
 use Rattle.commit_journal.proofs.BesideLemmas.{drop-map, drop-zip, flat_map-firsts, flat_map-same, flat_map-seconds, length-beside, slice_get-zip, take-zip, zip-push}
 

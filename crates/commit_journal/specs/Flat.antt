@@ -5,7 +5,7 @@ use Rattle.commit_journal.specs.declared.firing.Firing.{Firing}
 use Rattle.commit_journal.specs.declared.room.Room.{Room}
 use Rattle.commit_journal.specs.Lists.{Kept, RiseTo}
 use Rattle.commit_journal.specs.Newborns.{Made}
-use Rattle.commit_journal.specs.Entries.{born_ends}
+use Rattle.commit_journal.specs.Firings.{born_ends}
 
 -- each firing has its tags, its removed tags, its born elements and its pieces
 pub record AreParallel (firings : List Firing) (tags gone : Kept ℕ) (made : Made) (pieces : Kept Piece) : Type 0 where

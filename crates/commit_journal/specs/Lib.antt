@@ -1,13 +1,13 @@
--- the layout of pieces, a page as it grows
-pub mod Page
--- lists one behind another
-pub mod Lists
-pub mod Newborns
--- what a journal has room for
-pub mod Room
--- the journal: its entries, and the arrays that keep them
+-- the journal, its entries and what it has room for
 pub mod Entries
-pub mod Flat
 pub mod EntryViews
+pub mod Room
 -- its text
 pub mod JournalText
+-- how its arrays keep it
+pub mod Lists
+pub mod Newborns
+pub mod Firings
+pub mod Flat
+-- the text that is laid out so far
+pub mod Page

@@ -1,7 +1,7 @@
 //! What a journal keeps of a firing beside its lists.
 
 ghost use Rattle.std.specs.Prelude.{◌≡◌, ◌≤◌, ◌∷◌, IfOk, length, map, slice_index};
-ghost use Rattle.commit_journal.specs.Entries.{born_ends, firing_before};
+ghost use Rattle.commit_journal.specs.Firings.{born_ends, firing_before};
 
 use ops_text::OutOfMemory;
 use std::alloc::Global;

@@ -35,7 +35,8 @@ pub struct Journal {
 
 impl Model for Journal {
     ghost use Rattle.std.specs.Prelude.{◌-◌, vec_capacity, vec_len};
-    ghost use Rattle.commit_journal.specs.Entries.{Recorded, entries_of};
+    ghost use Rattle.commit_journal.specs.Entries.{Recorded};
+    ghost use Rattle.commit_journal.specs.Firings.{entries_of};
     ghost use Rattle.commit_journal.specs.Flat.{AreParallel, HaveRoom};
 
     ghost Value = { Recorded };

@@ -1,6 +1,6 @@
 -- The firings so far.
 use Rattle.std.proofs.Common.{◌≡◌, map, take}
-use Rattle.commit_journal.specs.Entries.{firing_before}
+use Rattle.commit_journal.specs.Firings.{firing_before}
 use Rattle.commit_journal.proofs.firing.firings_before.Given as goal
 
 abbrev pub invariant-loop-firing : goal.invariant-loop-firing

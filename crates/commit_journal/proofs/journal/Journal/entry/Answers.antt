@@ -2,7 +2,8 @@
 use Rattle.std.proofs.Common.{◌≡◌, ◌-◌, ◌<◌, ◌∷◌, ◌∙◌, Some, ap, arith, drop, length, rules, slice_get, subst, suc, sym, take}
 use Rattle.std.specs.Prelude.{slice_index}
 use Rattle.std.proofs.lemmas.Option.{slice_get_read}
-use Rattle.commit_journal.specs.Entries.{Recorded, born_ends, entry_with}
+use Rattle.commit_journal.specs.Entries.{Recorded, entry_with}
+use Rattle.commit_journal.specs.Firings.{born_ends}
 use Rattle.commit_journal.proofs.EntryLemmas.{born_ends-rise, slice_get-entry, within_firings}
 use Rattle.commit_journal.proofs.journal.Journal.entry.Goals as goal
 

@@ -4,7 +4,8 @@ use Rattle.std.specs.Prelude.{vec_capacity, vec_len}
 use Rattle.std.proofs.lemmas.List.{length_push, map-append}
 use Rattle.commit_journal.specs.declared.firing.Firing.{Firing}
 use Rattle.commit_journal.specs.declared.room.Room.{Room}
-use Rattle.commit_journal.specs.Entries.{Recorded, born_ends, entries_of, entry_with}
+use Rattle.commit_journal.specs.Entries.{Recorded, entry_with}
+use Rattle.commit_journal.specs.Firings.{born_ends, entries_of}
 use Rattle.commit_journal.specs.Flat.{HaveRoom}
 use Rattle.commit_journal.specs.Lists.{RiseTo}
 use Rattle.commit_journal.specs.Room.{FitsIn, room_for, room_without}

@@ -3,7 +3,8 @@ use Rattle.std.proofs.Common.{◌≡◌, ◌+◌, ◌-◌, ◌≤◌, ◌∷◌,
 use Rattle.std.specs.Prelude.{slice_index, slice_range}
 use Rattle.std.proofs.lemmas.List.{length-drop, length-map, length-take}
 use Rattle.commit_journal.specs.declared.firing.Firing.{Firing}
-use Rattle.commit_journal.specs.Entries.{Recorded, born_ends, born_in, entries_of, firing_before}
+use Rattle.commit_journal.specs.Entries.{Recorded, born_in}
+use Rattle.commit_journal.specs.Firings.{born_ends, entries_of, firing_before}
 use Rattle.commit_journal.specs.Lists.{RiseTo}
 use Rattle.commit_journal.proofs.CutLemmas.{begin-le, length-range, range_is}
 use Rattle.commit_journal.proofs.EntryLemmas.{RiseTo-entries, born_in-drop, entries_of-range, within_firings}

@@ -1,0 +1,5 @@
+//! Tests of commit_journal, by its public calls.
+#![tactic(auto)]
+
+#[cfg(test)]
+mod two_entries;
