@@ -1,0 +1,8 @@
+-- lists and options
+pub mod ListLemmas
+pub mod OptionLemmas
+-- demands and modes
+pub mod ModeLemmas
+-- bindings, and what elements give
+pub mod BindingLemmas
+pub mod GivenLemmas

@@ -1,0 +1,6 @@
+//! Footprints: which instantiations may fire side by side. It knows no thread, no lock word and no
+//! network; a lock is a number here, and a footprint a list of locks with modes.
+#![tactic(auto)]
+
+pub mod examples;
+pub mod laws;
