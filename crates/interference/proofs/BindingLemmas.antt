@@ -75,7 +75,7 @@ IsCompared-passed attr pred arg b values after passed =
     let third = Held-some (holds pred first.first second.first) b after second.next_is in
     record { value = first.first; other = second.first; at = first.is; compared = second.is; held = third.holds; same = third.same }
 
-one_of_same : (attr : ℕ) (among : List Value) (b : Bindings) (values : List Value) (after : Bindings) → after_test (OneOf attr among) b values ≡ Some after → b ≡ after
+pub one_of_same : (attr : ℕ) (among : List Value) (b : Bindings) (values : List Value) (after : Bindings) → after_test (OneOf attr among) b values ≡ Some after → b ≡ after
 one_of_same attr among b values after passed =
     let first = Gave-some (slice_get values attr) (λ value. only_if _ b) after passed in
     (Held-some _ b after first.next_is).same

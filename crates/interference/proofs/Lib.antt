@@ -6,3 +6,7 @@ pub mod ModeLemmas
 -- bindings, and what elements give
 pub mod BindingLemmas
 pub mod GivenLemmas
+pub mod WalkLemmas
+pub mod PinLemmas
+pub mod RegionLemmas
+pub mod ChangeLemmas
