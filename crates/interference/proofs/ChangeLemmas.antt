@@ -36,7 +36,7 @@ use Rattle.interference.proofs.RegionLemmas.{IsSo}
 
 -- a test that no element passes
 
-none_passes : {X : Type 0} (p : X → Bool) (x : X) (xs : List X) (b : Bool) → p x ≡ b → Among x xs → list_any p xs ≡ false → b ≡ false
+pub none_passes : {X : Type 0} (p : X → Bool) (x : X) (xs : List X) (b : Bool) → p x ≡ b → Among x xs → list_any p xs ≡ false → b ≡ false
 none_passes p x xs true is among none = absurd (true≢false (sym (list_any-among p x xs among is) ∙ none))
 none_passes p x xs false is among none = refl
 
@@ -109,16 +109,16 @@ IsAskedFor splits demands (Remove tag) = Among (stripe tag, Own) demands
 IsAskedFor splits demands (Make class values) = IsGrown splits demands class values
 
 -- the element at a positive condition element is of its class
-pub record IsPaired (conds : List Cond) (elements : List Element) (at : ℕ) (e : Element) : Type 0 where
+pub record IsPaired (pairs : List (Cond × Element)) (at : ℕ) (e : Element) : Type 0 where
   pub cond : Cond
-  pub pair : slice_get (taken conds elements) at ≡ Some (cond, e)
+  pub pair : slice_get pairs at ≡ Some (cond, e)
   pub class : cond.class ≡ e.class
 
 -- demands that hold all that the actions of a rule ask for
 pub record HoldDemands (splits : List (Option ℕ)) (rule : Rule) (elements : List Element) (demands : List (ℕ × Mode)) : Type 0 where
   pub owned : (a : Action) (at : ℕ) (e : Element) → Among a rule.actions → Among at (designators a) → slice_get elements at ≡ Some e → Among (stripe e.tag, Own) demands
   pub grown : (a : Action) (lock : ℕ) → Among a rule.actions → Among lock (grown_regions splits rule elements a) → Among (lock, Grow) demands
-  pub paired : (at : ℕ) (e : Element) → slice_get elements at ≡ Some e → IsPaired rule.conds elements at e
+  pub paired : (at : ℕ) (e : Element) → slice_get elements at ≡ Some e → IsPaired (taken rule.conds elements) at e
 
 -- how far a right-hand side has come, with nothing but what is asked for
 record IsAsked (splits : List (Option ℕ)) (rule : Rule) (elements : List Element) (demands : List (ℕ × Mode)) (p : Progress) : Type 0 where
@@ -152,7 +152,7 @@ made splits rule elements demands class size settings b values hold among has ok
 }
 
 -- a modify
-remade : (splits : List (Option ℕ)) (rule : Rule) (elements : List Element) (demands : List (ℕ × Mode)) (at : ℕ) (e : Element) (settings : List (ℕ × Term)) (b : Bindings) (values : List Value) → HoldDemands splits rule elements demands → Among (action.Modify at settings) rule.actions → IsPaired rule.conds elements at e → HasGiven rule elements b → after_sets b settings e.values ≡ Ok values → IsGrown splits demands e.class values
+remade : (splits : List (Option ℕ)) (rule : Rule) (elements : List Element) (demands : List (ℕ × Mode)) (at : ℕ) (e : Element) (settings : List (ℕ × Term)) (b : Bindings) (values : List Value) → HoldDemands splits rule elements demands → Among (action.Modify at settings) rule.actions → IsPaired (taken rule.conds elements) at e → HasGiven rule elements b → after_sets b settings e.values ≡ Ok values → IsGrown splits demands e.class values
 remade splits rule elements demands at e settings b values hold among paired has ok =
     let pair : Cond × Element = (paired.cond, e) in
     let known : ℕ → Option Value = λ attr. known_after rule elements attr (value_at pair attr) settings in

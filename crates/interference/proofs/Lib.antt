@@ -10,3 +10,6 @@ pub mod WalkLemmas
 pub mod PinLemmas
 pub mod RegionLemmas
 pub mod ChangeLemmas
+pub mod MatchedLemmas
+pub mod DemandLemmas
+pub mod UndisturbedLemmas
