@@ -1,5 +1,5 @@
 -- What demands come to: the mode asked of a lock covers each demand of it, and gathering them changes none.
-use Rattle.std.proofs.Common.{◌≡◌, ℕ, List, [], ◌∷◌, Bool, true, false, if◌then◌else◌, Option, Some, None, ◌⊎◌, inl, inr, fold, nat_lt, ◌==◌, refl, sym, ◌∙◌, ap, subst}
+use Rattle.std.proofs.Common.{◌≡◌, ℕ, List, [], ◌∷◌, Bool, true, false, if◌then◌else◌, Option, Some, None, ◌⊎◌, inl, inr, fold, map, nat_lt, ◌==◌, refl, sym, ◌∙◌, ap, subst}
 use Rattle.std.proofs.lemmas.Bool.Decides.{Decides-eqb}
 use Rattle.rule_base.specs.declared.lock.Mode.{Mode}
 use Rattle.rule_base.specs.declared.lock.Mode.TheVariants.{Watch, Grow, Own}
@@ -150,6 +150,15 @@ asks-all list (demand ∷ demands) lock =
 -- gathered demands ask the same of each lock
 pub asks-gathered : (demands : List (ℕ × Mode)) (lock : ℕ) → asks (gathered demands) lock ≡ asks demands lock
 asks-gathered demands lock = asks-all [] demands lock
+
+-- a lock that is asked for is demanded
+asked_first : (demand : ℕ × Mode) (demands : List (ℕ × Mode)) (lock : ℕ) (mode : Mode) (b : Bool) → (demand.0 == lock) ≡ b → joined (only_if b demand.1) (asks demands lock) ≡ Some mode → (asks demands lock ≡ Some mode → Among lock (map (λ (d : ℕ × Mode). d.0) demands)) → Among lock (map (λ (d : ℕ × Mode). d.0) (demand ∷ demands))
+asked_first demand demands lock mode true is asked later = inl (sym ((Decides-eqb demand.0 lock).0 is))
+asked_first demand demands lock mode false is asked later = inr (later asked)
+
+pub Among-asks : (demands : List (ℕ × Mode)) (lock : ℕ) (mode : Mode) → asks demands lock ≡ Some mode → Among lock (map (λ (d : ℕ × Mode). d.0) demands)
+Among-asks [] lock mode asked = absurd (let wrong : ⊥ = cc in wrong)
+Among-asks (demand ∷ demands) lock mode asked = asked_first demand demands lock mode (demand.0 == lock) refl asked (Among-asks demands lock mode)
 
 -- two demands of one lock that don't go together clash
 pub Clash-demands : (one other : List (ℕ × Mode)) (lock : ℕ) (mode beside : Mode) → Among (lock, mode) one → Among (lock, beside) other → goes mode beside ≡ false → Clash (gathered one) (gathered other)

@@ -16,6 +16,7 @@ pub mod ThinLemmas
 pub mod MachineLemmas
 pub mod RunLemmas
 pub mod TakenLemmas
+pub mod FitsLemmas
 pub mod BaseLemmas
 -- expressions
 pub mod Written

@@ -30,6 +30,8 @@ pub mod SoundConditions
 pub mod SoundActions
 pub mod Sound
 pub mod Thin
+-- which candidates fit a program
+pub mod Fits
 -- what a run may begin from
 pub mod Base
 -- laws of the match, of runs and of bases
