@@ -9,5 +9,7 @@ pub mod Regions
 -- footprints, and the law on them
 pub mod Footprint
 pub mod PhantomLaw
+-- what the crate's functions promise each other
+pub mod Finding
 -- worked examples of all of these
 pub mod Examples

@@ -3,4 +3,8 @@
 #![tactic(auto)]
 
 pub mod examples;
+mod given;
 pub mod laws;
+mod modes;
+
+pub use modes::compatible;

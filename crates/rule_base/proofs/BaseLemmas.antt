@@ -1,5 +1,5 @@
 -- Lawful bases: an opening has one, and a run from one leaves one.
-use Rattle.std.proofs.Common.{◌≡◌, ℕ, ◌+◌, ◌^◌, ◌<◌, ◌≤◌, List, [], ◌∷◌, ◌++◌, length, Some, not, ◌==◌, sym, ap, subst, arith}
+use Rattle.std.proofs.Common.{◌≡◌, ℕ, ◌+◌, ◌^◌, ◌<◌, ◌≤◌, List, [], ◌∷◌, ◌++◌, length, Option, Some, None, not, ◌==◌, refl, sym, ◌∙◌, ap, subst, arith}
 use Rattle.std.specs.List.{AllByRecursion, IsDistinct, list_any}
 use Rattle.rule_base.specs.declared.change.Change.{Change}
 use Rattle.rule_base.specs.declared.change.Change.TheVariants.{Remove, Make}
@@ -102,7 +102,7 @@ IsSteady-step program s c after sound steady steps =
     let next_is : after.next ≡ s.next + length (born s.next made.done.changes) = ap (λ (t : State). t.next) made.commits in
     let later : s.next ≤ after.next = omega (arith, next_is) in
     let some : AllByRecursion (λ (e : Element). 1 ≤ e.tag) after.memory =
-    subst (λ (t : State). AllByRecursion (λ (e : Element). 1 ≤ e.tag) t.memory) (sym made.commits) (from_one_after s made.done steady.some (Each-weaker (λ (e : Element). WasGiven s.next e.tag) (λ (e : Element). 1 ≤ e.tag) (λ e was. was.0) s.memory steady.given)) in
+        subst (λ (t : State). AllByRecursion (λ (e : Element). 1 ≤ e.tag) t.memory) (sym made.commits) (from_one_after s made.done steady.some (Each-weaker (λ (e : Element). WasGiven s.next e.tag) (λ (e : Element). 1 ≤ e.tag) (λ e was. was.0) s.memory steady.given)) in
     let fired = s.fired ++ c ∷ [] in
     let fired_is : after.fired ≡ still_fired s.refraction program (memory_after s made.done) fired = ap (λ (t : State). t.fired) made.commits in
     let fits = FitsRule-later program s.next after.next c later (FitsRule-matches program s.next s.memory c sound steady.given (matches_at_step program s c after steps)) in
