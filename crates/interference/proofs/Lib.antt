@@ -13,3 +13,6 @@ pub mod ChangeLemmas
 pub mod MatchedLemmas
 pub mod DemandLemmas
 pub mod UndisturbedLemmas
+-- the code
+pub mod FindingLemmas
+pub mod SplitLemmas

@@ -15,7 +15,7 @@ bucket_below (Int (negsuc n)) = omega (arith, mod_below n 16 (omega arith))
 bucket_below (Sym n) = mod_below n 16 (omega arith)
 
 -- the numbers of a range
-first_or_later : (first n : ℕ) → first ≤ n → (n ≡ first) ⊎ (first + 1 ≤ n)
+pub first_or_later : (first n : ℕ) → first ≤ n → (n ≡ first) ⊎ (first + 1 ≤ n)
 first_or_later zero zero from = inl refl
 first_or_later zero (suc n) from = inr (omega arith)
 first_or_later (suc first) zero from = absurd (omega (arith, from))

@@ -11,5 +11,6 @@ pub mod Footprint
 pub mod PhantomLaw
 -- what the crate's functions promise each other
 pub mod Finding
+pub mod Counting
 -- worked examples of all of these
 pub mod Examples

@@ -25,9 +25,13 @@ is_most_pinned rules class attrs attr =
 abbrev pub split : List Rule → ℕ → ℕ → Option ℕ
 split rules class size = find (is_most_pinned rules class (range_with_len 0 size)) (range_with_len 0 size)
 
--- the splits of a program's classes, in order
+-- the splits of classes, in order
+abbrev pub splits_by : List Rule → List Class → List (Option ℕ)
+splits_by rules classes = map (λ (numbered : ℕ × Class). split rules numbered.0 (length numbered.1.attrs)) (enumerate_from 0 classes)
+
+-- the splits of a program's classes
 abbrev pub splits_of : Program → List (Option ℕ)
-splits_of program = map (λ (numbered : ℕ × Class). split program.rules numbered.0 (length numbered.1.attrs)) (enumerate_from 0 program.classes)
+splits_of program = splits_by program.rules program.classes
 
 -- the split of a class among those of all classes
 abbrev pub split_of : List (Option ℕ) → ℕ → Option ℕ

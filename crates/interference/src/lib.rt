@@ -3,8 +3,13 @@
 #![tactic(auto)]
 
 pub mod examples;
+mod footprint;
 mod given;
 pub mod laws;
 mod modes;
+mod regions;
+mod splits;
 
+pub use footprint::footprint;
 pub use modes::compatible;
+pub use splits::Splits;
