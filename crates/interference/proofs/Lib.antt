@@ -16,3 +16,4 @@ pub mod UndisturbedLemmas
 -- the code
 pub mod FindingLemmas
 pub mod SplitLemmas
+pub mod DemandCodeLemmas

@@ -1,8 +1,9 @@
 -- What the crate's functions promise each other: the first test that binds a variable, and regions by one number.
-use Rattle.std.specs.Prelude.{ℕ, List, [], ◌∷◌, Bool, Option, Some, None, ◌<◌, filter_map, fold, is_some, map, slice_get, not, ◌&&◌, ◌==◌}
+use Rattle.std.specs.Prelude.{ℕ, List, [], ◌∷◌, Bool, Option, Some, None, ◌+◌, ◌<◌, if◌then◌else◌, nat_lt, filter_map, fold, option_and_then, is_some, map, slice_get, not, ◌&&◌, ◌==◌}
 use Rattle.std.specs.List.{AllByRecursion}
 use Rattle.rule_base.specs.declared.lock.Mode.{Mode}
 use Rattle.rule_base.specs.declared.lock.Mode.TheVariants.{Watch, Grow, Own}
+use Rattle.rule_base.specs.declared.element.Element.{Element}
 use Rattle.rule_base.specs.declared.condition.Test.{Test}
 use Rattle.rule_base.specs.declared.condition.Test.TheVariants.{Bind, Cmp, OneOf}
 use Rattle.rule_base.specs.declared.condition.Cond.{Cond}
@@ -12,6 +13,7 @@ use Rattle.rule_base.specs.declared.program.Rule.{Rule}
 use Rattle.rule_base.specs.Chains.{only_if}
 use Rattle.interference.specs.Locks.{every_region, region, stripe}
 use Rattle.interference.specs.Pins.{first_answer}
+use Rattle.interference.specs.Regions.{watched_regions}
 use Rattle.interference.specs.Footprint.{in_mode, with_demand}
 
 -- the place of a mode in a table
@@ -47,6 +49,15 @@ with_demands footprint more = fold with_demand footprint more
 abbrev pub with_regions : List (ℕ × Mode) → ℕ → Option ℕ → Mode → List (ℕ × Mode)
 with_regions footprint class number mode = with_demands footprint (in_mode mode (map (region class) (numbers number)))
 
+-- how many demands from the first on are of a lesser lock
+abbrev pub lesser : ℕ → List (ℕ × Mode) → ℕ
+lesser lock [] = 0
+lesser lock (first ∷ rest) = if nat_lt first.0 lock then lesser lock rest + 1 else 0
+
+-- the mode of the demand at a place, where it is of the lock
+abbrev pub asked_at : List (ℕ × Mode) → ℕ → ℕ → Option Mode
+asked_at demands place lock = option_and_then (λ (d : ℕ × Mode). only_if (d.0 == lock) d.1) (slice_get demands place)
+
 -- the stripes of the elements that designators designate
 abbrev pub designated_locks : List ℕ → List ℕ → List ℕ
 designated_locks tags designators = map stripe (filter_map (slice_get tags) designators)
@@ -64,3 +75,7 @@ IsOfFewClasses action.Halt = Unit {0}
 pub record HasFewClasses (rule : Rule) : Type 0 where
   pub conds : AllByRecursion (λ (c : Cond). c.class < 256) rule.conds
   pub actions : AllByRecursion IsOfFewClasses rule.actions
+
+-- the regions that a condition element watches, if it is negated
+abbrev pub watched_if_negated : List (Option ℕ) → Rule → List Element → Cond → List ℕ
+watched_if_negated splits rule elements c = if c.negated then watched_regions splits rule elements c else []

@@ -3,13 +3,13 @@
 #![tactic(auto)]
 
 pub mod examples;
-mod footprint;
+mod demands;
 mod given;
 pub mod laws;
 mod modes;
 mod regions;
 mod splits;
 
-pub use footprint::footprint;
+pub use demands::footprint;
 pub use modes::compatible;
 pub use splits::Splits;

@@ -1,9 +1,10 @@
 //! Footprints: the locks that a candidate asks for.
 
-ghost use Rattle.std.specs.Prelude.{◌≡◌, ◌×◌, ◌+◌, ◌*◌, ◌≤◌, ◌<◌, ℕ, [], ◌∷◌, ◌++◌, Some, IfSome, OnOk, drop, flat_map, length, map, slice_get, take};
+ghost use Rattle.std.specs.Prelude.{◌≡◌, ◌+◌, ◌*◌, ◌≤◌, ◌<◌, ℕ, [], ◌∷◌, ◌++◌, Some, IfSome, OnOk, OnSome, drop, flat_map, length, map, slice_get, take};
 ghost use Rattle.std.specs.List.{AllByRecursion};
 ghost use Rattle.rule_base.specs.declared.lock.Mode.{Mode};
 ghost use Rattle.rule_base.specs.declared.lock.Mode.TheVariants.{Watch, Grow, Own};
+ghost use Rattle.rule_base.specs.declared.action.Action.TheVariants as action;
 ghost use Rattle.rule_base.specs.Fits.{Fits};
 ghost use Rattle.rule_base.specs.Sound.{IsSound};
 ghost use Rattle.interference.specs.Locks.{region, stripe};
@@ -11,13 +12,13 @@ ghost use Rattle.interference.specs.Given.{negated};
 ghost use Rattle.interference.specs.Splits.{splits_of};
 ghost use Rattle.interference.specs.Regions.{grown_regions, watched_regions};
 ghost use Rattle.interference.specs.Footprint.{designators, demands, designated_demands, footprint, in_mode, made_demands, matched_demands, negated_demands, with_demand};
-ghost use Rattle.interference.specs.Finding.{HasFewClasses, IsOfFewClasses, designated_locks, numbers, with_demands, with_regions};
+ghost use Rattle.interference.specs.Finding.{HasFewClasses, IsOfFewClasses, asked_at, designated_locks, lesser, numbers, watched_if_negated, with_demands, with_regions};
 
 use crate::Splits;
 use crate::modes::joined;
 use crate::regions::{made_region, positive_at, remade_region, watched_region};
 use ops_text::OutOfMemory;
-use rule_base::{Action, Candidate, Cond, Elements, Mode, Program, Rule};
+use rule_base::{Action, Candidate, Cond, Elements, Mode, Program, Rule, Term};
 
 /// Fills `out` with the footprint of a candidate, in place of what was there. It goes through the
 /// condition elements and the actions of the rule, and through the tests of its positive condition
@@ -77,13 +78,24 @@ fn demand_designated(
     ensures { OnOk result (out.new.items ≡ with_demands out.old.items (in_mode Own (designated_locks tags.now (flat_map designators actions.now)))) }
 {
     for action in actions {
-        match action {
-            Action::Modify { at, sets: _ } => demand_tag(*at, tags, out)?,
-            Action::Remove { at } => demand_tags(at.as_slice(), tags, out)?,
-            _ => (),
-        }
+        demand_designators(action, tags, out)?;
     }
     Ok(())
+}
+
+/// Owns the elements that an action removes or modifies.
+fn demand_designators(
+    action: &Action,
+    tags: &[u64],
+    out: &mut Vec<(u32, Mode)>,
+) -> Result<(), OutOfMemory>
+    ensures { OnOk result (out.new.items ≡ with_demands out.old.items (in_mode Own (designated_locks tags.now (designators action.now)))) }
+{
+    match action {
+        Action::Modify { at, sets: _ } => demand_tag(*at, tags, out),
+        Action::Remove { at } => demand_tags(at.as_slice(), tags, out),
+        _ => Ok(()),
+    }
 }
 
 /// Owns the elements of these designators.
@@ -125,12 +137,27 @@ fn demand_negated(
     ensures { OnOk result (out.new.items ≡ with_demands out.old.items (negated_demands splits.now rule.now elements.now)) }
 {
     for cond in rule.conds.as_slice() {
-        if cond.negated {
-            let region = watched_region(splits, rule, elements, cond);
-            demand_regions(cond.class, region, Mode::Watch, out)?;
-        }
+        demand_cond(splits, rule, elements, cond, out)?;
     }
     Ok(())
+}
+
+/// The regions that a condition element watches, if it is negated.
+fn demand_cond(
+    splits: &Splits,
+    rule: &Rule,
+    elements: &Elements,
+    cond: &Cond,
+    out: &mut Vec<(u32, Mode)>,
+) -> Result<(), OutOfMemory>
+    requires { cond.now.class < 256 }
+    ensures { OnOk result (out.new.items ≡ with_demands out.old.items (in_mode Watch (watched_if_negated splits.now rule.now elements.now cond.now))) }
+{
+    if !cond.negated {
+        return Ok(());
+    }
+    let region = watched_region(splits, rule, elements, cond);
+    demand_regions(cond.class, region, Mode::Watch, out)
 }
 
 /// What comes grows its class.
@@ -167,19 +194,33 @@ fn demand_action(
             demand_regions(*class, region, Mode::Grow, out)
         }
         Action::Modify { at, sets } => {
-            let place = *at as usize;
-            if place >= elements.len() {
-                return Ok(());
-            }
-            let Some(cond) = positive_at(rule.conds.as_slice(), place) else {
-                return Ok(());
-            };
-            let element = elements.at(place);
-            let region = remade_region(splits, rule, elements, cond, element, sets.as_slice());
-            demand_regions(cond.class, region, Mode::Grow, out)
+            demand_modify(splits, rule, elements, *at, sets.as_slice(), out)
         }
         _ => Ok(()),
     }
+}
+
+/// The regions that a modify grows.
+fn demand_modify(
+    splits: &Splits,
+    rule: &Rule,
+    elements: &Elements,
+    at: u32,
+    sets: &[(u32, Term)],
+    out: &mut Vec<(u32, Mode)>,
+) -> Result<(), OutOfMemory>
+    requires { HasFewClasses rule.now }
+    ensures { OnOk result (out.new.items ≡ with_demands out.old.items (in_mode Grow (grown_regions splits.now rule.now elements.now (action.Modify at sets.now)))) }
+{
+    let place = at as usize;
+    if place >= elements.len() {
+        return Ok(());
+    }
+    let Some(cond) = positive_at(rule.conds.as_slice(), place) else {
+        return Ok(());
+    };
+    let region = remade_region(splits, rule, elements, cond, elements.at(place), sets);
+    demand_regions(cond.class, region, Mode::Grow, out)
 }
 
 /// One region of a class, or all.
@@ -215,19 +256,32 @@ fn demand(out: &mut Vec<(u32, Mode)>, lock: u32, mode: Mode) -> Result<(), OutOf
     ensures { OnOk result (out.new.items ≡ with_demand out.old.items (lock, mode)) }
 {
     let place = place_of(out.as_slice(), lock);
-    if place < out.len() && out[place].0 == lock {
-        out[place].1 = joined(out[place].1, mode);
-        return Ok(());
+    match asked_at(out.as_slice(), place, lock) {
+        Some(asked) => {
+            out[place] = (lock, joined(asked, mode));
+        }
+        None => {
+            out.insert(place, (lock, mode))?;
+        }
     }
-    out.reserve(1)?;
-    out.insert(place, (lock, mode))
+    Ok(())
+}
+
+/// The mode of the demand at this place, where it is of this lock.
+fn asked_at(demands: &[(u32, Mode)], place: usize, lock: u32) -> Option<Mode>
+    ensures asked { result ≡ asked_at demands.now place lock }
+    ensures within { OnSome result (place < length demands.now) }
+{
+    if place < demands.len() && demands[place].0 == lock {
+        return Some(demands[place].1);
+    }
+    None
 }
 
 /// How many demands from the first on are of a lesser lock.
 fn place_of(demands: &[(u32, Mode)], lock: u32) -> usize
+    ensures lesser { result ≡ lesser lock demands.now }
     ensures within { result ≤ length demands.now }
-    ensures passed { (mode : Mode) → with_demand demands.now (lock, mode) ≡ take result demands.now ++ with_demand (drop result demands.now) (lock, mode) }
-    ensures next { (next : ℕ × Mode) → slice_get demands.now result ≡ Some next → lock ≤ next.0 }
 {
     for at in 0..demands.len() {
         if demands[at].0 >= lock {
