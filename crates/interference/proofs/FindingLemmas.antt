@@ -32,7 +32,8 @@ present [] at within = absurd (omega (arith, within))
 present (x ∷ xs) zero within = (x, refl)
 present (x ∷ xs) (suc at) within = present xs at (omega (arith, within))
 
-list_any-append : {X : Type 0} (p : X → Bool) (xs ys : List X) → list_any p (xs ++ ys) ≡ (list_any p xs || list_any p ys)
+-- a test of some element of two lists
+pub list_any-append : {X : Type 0} (p : X → Bool) (xs ys : List X) → list_any p (xs ++ ys) ≡ (list_any p xs || list_any p ys)
 list_any-append p [] ys = refl
 list_any-append p (x ∷ xs) ys = or_first (p x) (list_any p xs) (list_any p ys) (list_any p (xs ++ ys)) (list_any-append p xs ys)
   where

@@ -17,3 +17,4 @@ pub mod UndisturbedLemmas
 pub mod FindingLemmas
 pub mod SplitLemmas
 pub mod DemandCodeLemmas
+pub mod RuleLemmas

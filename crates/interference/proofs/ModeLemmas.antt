@@ -75,7 +75,7 @@ joined-symmetric None p = sym (joined-none p)
 joined-symmetric (Some a) None = refl
 joined-symmetric (Some a) (Some b) = ap (λ m. Some m) (both-symmetric a b)
 
-joined-associative : (o p q : Option Mode) → joined (joined o p) q ≡ joined o (joined p q)
+pub joined-associative : (o p q : Option Mode) → joined (joined o p) q ≡ joined o (joined p q)
 joined-associative None p q = refl
 joined-associative (Some a) None q = refl
 joined-associative (Some a) (Some b) None = refl

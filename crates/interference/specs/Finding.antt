@@ -1,5 +1,5 @@
 -- What the crate's functions promise each other: the first test that binds a variable, and regions by one number.
-use Rattle.std.specs.Prelude.{ℕ, List, [], ◌∷◌, Bool, Option, Some, None, ◌+◌, ◌<◌, if◌then◌else◌, nat_lt, filter_map, fold, option_and_then, is_some, map, slice_get, not, ◌&&◌, ◌==◌}
+use Rattle.std.specs.Prelude.{ℕ, List, [], ◌∷◌, Bool, false, Option, Some, None, ◌+◌, ◌<◌, if◌then◌else◌, nat_lt, filter_map, fold, option_and_then, is_some, map, slice_get, not, ◌&&◌, ◌==◌}
 use Rattle.std.specs.List.{AllByRecursion}
 use Rattle.rule_base.specs.declared.lock.Mode.{Mode}
 use Rattle.rule_base.specs.declared.lock.Mode.TheVariants.{Watch, Grow, Own}
@@ -12,6 +12,10 @@ use Rattle.rule_base.specs.declared.action.Action.TheVariants as action
 use Rattle.rule_base.specs.declared.program.Rule.{Rule}
 use Rattle.rule_base.specs.Chains.{only_if}
 use Rattle.interference.specs.Locks.{every_region, region, stripe}
+use Rattle.std.specs.Option.{option_map_or}
+use Rattle.std.specs.List.{list_any}
+use Rattle.interference.specs.Given.{positive}
+use Rattle.interference.specs.MayInterfere.{class_at, classes_of}
 use Rattle.interference.specs.Pins.{first_answer}
 use Rattle.interference.specs.Regions.{watched_regions}
 use Rattle.interference.specs.Footprint.{in_mode, with_demand}
@@ -79,3 +83,7 @@ pub record HasFewClasses (rule : Rule) : Type 0 where
 -- the regions that a condition element watches, if it is negated
 abbrev pub watched_if_negated : List (Option ℕ) → Rule → List Element → Cond → List ℕ
 watched_if_negated splits rule elements c = if c.negated then watched_regions splits rule elements c else []
+
+-- whether other condition elements have a positive one of the class at a designator
+abbrev pub takes_at : List Cond → List Cond → ℕ → Bool
+takes_at conds others at = option_map_or (λ class. list_any (λ k. k == class) (classes_of (positive others))) (class_at conds at) false

@@ -9,6 +9,9 @@ pub mod Regions
 -- footprints, and the law on them
 pub mod Footprint
 pub mod PhantomLaw
+-- which rules may interfere, and how rules are shared
+pub mod MayInterfere
+pub mod Parts
 -- what the crate's functions promise each other
 pub mod Finding
 pub mod Counting

@@ -8,8 +8,12 @@ mod given;
 pub mod laws;
 mod modes;
 mod regions;
+mod rules;
+mod sharing;
 mod splits;
 
 pub use demands::footprint;
 pub use modes::compatible;
+pub use rules::may_interfere;
+pub use sharing::parts;
 pub use splits::Splits;
