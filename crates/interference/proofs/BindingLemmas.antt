@@ -1,6 +1,5 @@
 -- What tests leave in the bindings: the values that they take, and what was there.
-use Rattle.std.proofs.Common.{◌≡◌, ℕ, ◌+◌, ◌<◌, List, [], ◌∷◌, Bool, true, false, Option, Some, None, ◌⊎◌, inl, inr, is_some, length, option_and_then, option_map, slice_get, zero, suc, refl, sym, ◌∙◌, ap, subst, arith, length-set, ◌==◌}
-use Rattle.std.specs.List.{flat_map}
+use Rattle.std.proofs.Common.{◌≡◌, ℕ, ◌<◌, List, [], ◌∷◌, true, Option, Some, None, ◌⊎◌, inl, inr, is_some, length, option_and_then, slice_get, zero, suc, refl, sym, ◌∙◌, ap, subst, arith, length-set, ◌==◌}
 use Rattle.rule_base.specs.declared.value.Value.{Value}
 use Rattle.rule_base.specs.declared.element.Element.{Element}
 use Rattle.rule_base.specs.declared.condition.Arg.{Arg}
@@ -14,9 +13,8 @@ use Rattle.rule_base.specs.Bindings.{Bindings, binding_of, bound, no_bindings}
 use Rattle.rule_base.specs.Acceptance.{accepts, after_test, after_tests, compared_with}
 use Rattle.rule_base.specs.Sound.{SoundTests, known_after_test}
 use Rattle.rule_base.proofs.AmongLemmas.{Among}
-use Rattle.interference.specs.Given.{told_by_test, value_at}
-use Rattle.interference.proofs.ListLemmas.{Among-append}
-use Rattle.interference.proofs.OptionLemmas.{Gave, Gave-some, GaveMapped, GaveMapped-some, Held, Held-some}
+use Rattle.interference.specs.Given.{value_at}
+use Rattle.interference.proofs.OptionLemmas.{Gave-some, GaveMapped-some, Held-some}
 
 -- a value that a variable has once another is bound is the new one, or was there
 pub bound_or_before : (b : Bindings) (var w : ℕ) (value x : Value) → binding_of (bound b var value) w ≡ Some x → ((w ≡ var) × (value ≡ x)) ⊎ (binding_of b w ≡ Some x)
@@ -165,16 +163,16 @@ IsFilled-tests size vars known (Bind attr var ∷ tests) b after values sound lo
     let value = GaveMapped-some (slice_get values attr) (bound b var) gave.first gave.is in
     let longer : length gave.first ≡ length b = ap length (sym value.last_is) ∙ length-set b var (Some value.first) in
     filled_more tests (Bind attr var) b gave.first after longer
-      (λ w has. subst (λ c. HasValue c w) value.last_is (HasValue-stays b var w value.first has))
-      (λ at u same. subst (λ w. HasValue gave.first w) (same_bind at u attr var same) (subst (λ c. HasValue c var) value.last_is (HasValue-bound b var value.first (subst (λ n. var < n) (sym long) sound.0.1))))
-      (IsFilled-tests size vars (known_after_test known (Bind attr var)) tests gave.first after values sound.1 (longer ∙ long) gave.next_is)
+    (λ w has. subst (λ c. HasValue c w) value.last_is (HasValue-stays b var w value.first has))
+    (λ at u same. subst (λ w. HasValue gave.first w) (same_bind at u attr var same) (subst (λ c. HasValue c var) value.last_is (HasValue-bound b var value.first (subst (λ n. var < n) (sym long) sound.0.1))))
+    (IsFilled-tests size vars (known_after_test known (Bind attr var)) tests gave.first after values sound.1 (longer ∙ long) gave.next_is)
 IsFilled-tests size vars known (Cmp attr pred arg ∷ tests) b after values sound long passed =
     let gave = Gave-some (after_test (Cmp attr pred arg) b values) (λ mid. after_tests tests mid values) after passed in
     let same = (IsCompared-passed attr pred arg b values gave.first gave.is).same in
     filled_more tests (Cmp attr pred arg) b gave.first after (ap length (sym same)) (λ w has. subst (λ c. HasValue c w) same has) (λ at u wrong. absurd (no_bind_cmp at u attr pred arg wrong))
-      (IsFilled-tests size vars known tests gave.first after values sound.1 (ap length (sym same) ∙ long) gave.next_is)
+    (IsFilled-tests size vars known tests gave.first after values sound.1 (ap length (sym same) ∙ long) gave.next_is)
 IsFilled-tests size vars known (OneOf attr among ∷ tests) b after values sound long passed =
     let gave = Gave-some (after_test (OneOf attr among) b values) (λ mid. after_tests tests mid values) after passed in
     let same = one_of_same attr among b values gave.first gave.is in
     filled_more tests (OneOf attr among) b gave.first after (ap length (sym same)) (λ w has. subst (λ c. HasValue c w) same has) (λ at u wrong. absurd (no_bind_one at u attr among wrong))
-      (IsFilled-tests size vars known tests gave.first after values sound.1 (ap length (sym same) ∙ long) gave.next_is)
+    (IsFilled-tests size vars known tests gave.first after values sound.1 (ap length (sym same) ∙ long) gave.next_is)

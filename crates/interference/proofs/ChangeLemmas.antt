@@ -1,10 +1,10 @@
 -- The changes of a firing are asked for: what goes is owned, and what comes falls into a region that its action grows.
-use Rattle.std.proofs.Common.{◌≡◌, ℕ, zero, suc, ◌+◌, List, [], ◌∷◌, ◌++◌, Bool, true, false, cond, not, if◌then◌else◌, Option, Some, None, Result, Ok, Err, ◌⊎◌, inl, inr, fold, map, replicate, slice_get, slice_set, option_and_then, unwrap_or, ◌==◌, refl, sym, ◌∙◌, ap, subst, true≢false}
+use Rattle.std.proofs.Common.{◌≡◌, ℕ, zero, suc, ◌+◌, List, [], ◌∷◌, ◌++◌, Bool, true, false, not, if◌then◌else◌, Option, Some, None, Result, Ok, Err, ◌⊎◌, inl, inr, fold, replicate, slice_get, slice_set, unwrap_or, ◌==◌, refl, sym, ◌∙◌, ap, subst, true≢false}
 use Rattle.std.specs.List.{list_any}
 use Rattle.std.specs.Option.{option_map_or}
 use Rattle.std.proofs.lemmas.Bool.Decides.{Decides-eqb}
 use Rattle.rule_base.specs.declared.lock.Mode.{Mode}
-use Rattle.rule_base.specs.declared.lock.Mode.TheVariants.{Watch, Grow, Own}
+use Rattle.rule_base.specs.declared.lock.Mode.TheVariants.{Grow, Own}
 use Rattle.rule_base.specs.declared.value.Value.{Value}
 use Rattle.rule_base.specs.declared.element.Element.{Element}
 use Rattle.rule_base.specs.declared.condition.Cond.{Cond}
@@ -17,9 +17,9 @@ use Rattle.rule_base.specs.declared.change.Change.TheVariants.{Remove, Make}
 use Rattle.rule_base.specs.declared.change.Piece.{Piece}
 use Rattle.rule_base.specs.declared.entry.FaultCause.{FaultCause}
 use Rattle.rule_base.specs.declared.program.Rule.{Rule}
-use Rattle.rule_base.specs.Chains.{◌>>=◌, only_if}
+use Rattle.rule_base.specs.Chains.{only_if}
 use Rattle.rule_base.specs.Value.{nil}
-use Rattle.rule_base.specs.Bindings.{Bindings, binding_of, bound, value_of}
+use Rattle.rule_base.specs.Bindings.{Bindings, bound, value_of}
 use Rattle.rule_base.specs.Effect.{Progress, after_action, after_actions, after_modify, after_remove, changing, is_gone, modified, of_action, unless_gone}
 use Rattle.rule_base.specs.Term.{after_sets, item_pieces, term_value}
 use Rattle.rule_base.proofs.AmongLemmas.{Among, Among-map, list_any-among}
@@ -158,9 +158,9 @@ remade splits rule elements demands at e settings b values hold among paired has
     let known : ℕ → Option Value = λ attr. known_after rule elements attr (value_at pair attr) settings in
     let class_is : (paired.cond.class == e.class) ≡ true = (Decides-eqb paired.cond.class e.class).1 paired.class in
     let regions_are : grown_regions splits rule elements (action.Modify at settings) ≡ region_locks splits paired.cond.class known =
-      ap (λ o. option_map_or (λ (p : Cond × Element). region_locks splits p.0.class (λ attr. known_after rule elements attr (value_at p attr) settings)) o []) paired.pair in
+    ap (λ o. option_map_or (λ (p : Cond × Element). region_locks splits p.0.class (λ attr. known_after rule elements attr (value_at p attr) settings)) o []) paired.pair in
     let here : (number : ℕ) → Among number (regions_by (split_of splits paired.cond.class) known) → Among (region paired.cond.class number, Grow) demands =
-      λ number of_region. hold.grown (action.Modify at settings) (region paired.cond.class number) among (subst (Among (region paired.cond.class number)) (sym regions_are) (Among-map (region paired.cond.class) number (regions_by (split_of splits paired.cond.class) known) of_region)) in
+    λ number of_region. hold.grown (action.Modify at settings) (region paired.cond.class number) among (subst (Among (region paired.cond.class number)) (sym regions_are) (Among-map (region paired.cond.class) number (regions_by (split_of splits paired.cond.class) known) of_region)) in
     record {
       known = known;
       so = λ attr. after_all rule elements b attr (value_at pair attr) settings e.values values has (λ value x is at'. let same : Some x ≡ Some value = sym at' ∙ sym (value_at-class pair attr class_is) ∙ is in cc) ok;

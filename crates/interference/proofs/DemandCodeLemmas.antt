@@ -1,5 +1,5 @@
 -- Where a demand goes in a footprint, and how demands add up.
-use Rattle.std.proofs.Common.{◌≡◌, ℕ, zero, suc, ◌+◌, ◌<◌, ◌≤◌, List, [], ◌∷◌, ◌++◌, Bool, true, false, if◌then◌else◌, Option, Some, None, ◌⊎◌, inl, inr, cond, drop, filter_map, flat_map, fold, get_or, length, map, nat_lt, slice_get, slice_set, take, not, zip, ◌==◌, refl, sym, ◌∙◌, ap, subst, arith, rules, tests, true≢false, append_assoc}
+use Rattle.std.proofs.Common.{◌≡◌, ℕ, zero, suc, ◌+◌, ◌<◌, ◌≤◌, List, [], ◌∷◌, ◌++◌, Bool, true, false, if◌then◌else◌, Option, Some, None, cond, drop, filter_map, flat_map, length, map, nat_lt, slice_get, slice_set, not, zip, ◌==◌, refl, sym, ◌∙◌, ap, arith, rules, tests, append_assoc}
 use Rattle.std.specs.Option.{option_map_or}
 use Rattle.rule_base.specs.declared.action.Term.{Term}
 use Rattle.rule_base.specs.declared.action.Action.{Action}

@@ -4,7 +4,6 @@ use Rattle.std.specs.List.{cons_option, filter, flat_map}
 use Rattle.std.specs.Option.{option_map_or}
 use Rattle.rule_base.specs.declared.lock.Mode.{Mode}
 use Rattle.rule_base.specs.declared.lock.Mode.TheVariants.{Watch, Grow, Own}
-use Rattle.rule_base.specs.declared.element.Element.{Element}
 use Rattle.rule_base.specs.declared.condition.Cond.{Cond}
 use Rattle.rule_base.specs.declared.action.Action.{Action}
 use Rattle.rule_base.specs.declared.instantiation.Choice.{Choice}
@@ -67,7 +66,7 @@ made_of program memory rule c = made_demands (splits_of program) rule (elements_
 pub matched_is_demanded : (program : Program) (memory : Memory) (rule : Rule) (c : Choice) (tag : ℕ) → Among tag c.tags → Among (stripe tag, Watch) (demands_in program memory rule c)
 matched_is_demanded program memory rule c tag among =
     of_first (stripe tag, Watch) (matched_demands c.tags) (designated_demands rule c.tags) (negated_of program memory rule c) (made_of program memory rule c)
-      (Among-map (λ lock. (lock, Watch)) (stripe tag) (map stripe c.tags) (Among-map stripe tag c.tags among))
+    (Among-map (λ lock. (lock, Watch)) (stripe tag) (map stripe c.tags) (Among-map stripe tag c.tags among))
 
 -- each designated tag is owned
 pub designated_is_demanded : (program : Program) (memory : Memory) (rule : Rule) (c : Choice) (a : Action) (at tag : ℕ) → Among a rule.actions → Among at (designators a) → slice_get c.tags at ≡ Some tag → Among (stripe tag, Own) (demands_in program memory rule c)
@@ -75,7 +74,7 @@ designated_is_demanded program memory rule c a at tag of_action designates is =
     let designated = filter_map (slice_get c.tags) (flat_map designators rule.actions) in
     let here : Among tag designated = Among-filter_map (slice_get c.tags) at tag (flat_map designators rule.actions) (Among-flat_map designators a at rule.actions of_action designates) is in
     of_second (stripe tag, Own) (matched_demands c.tags) (designated_demands rule c.tags) (negated_of program memory rule c) (made_of program memory rule c)
-      (Among-map (λ lock. (lock, Own)) (stripe tag) (map stripe designated) (Among-map stripe tag designated here))
+    (Among-map (λ lock. (lock, Own)) (stripe tag) (map stripe designated) (Among-map stripe tag designated here))
 
 -- each region of a negated condition element is watched
 pub negated_is_demanded : (program : Program) (memory : Memory) (rule : Rule) (c : Choice) (n : Cond) (lock : ℕ) → Among n rule.conds → n.negated ≡ true → Among lock (watched_regions (splits_of program) rule (elements_at memory c.tags) n) → Among (lock, Watch) (demands_in program memory rule c)
@@ -83,14 +82,14 @@ negated_is_demanded program memory rule c n lock of_rule is of_region =
     let watched = watched_regions (splits_of program) rule (elements_at memory c.tags) in
     let here : Among lock (flat_map watched (negated rule.conds)) = Among-flat_map watched n lock (negated rule.conds) (Among-filter (λ (x : Cond). x.negated) n rule.conds of_rule is) of_region in
     of_third (lock, Watch) (matched_demands c.tags) (designated_demands rule c.tags) (negated_of program memory rule c) (made_of program memory rule c)
-      (Among-map (λ l. (l, Watch)) lock (flat_map watched (negated rule.conds)) here)
+    (Among-map (λ l. (l, Watch)) lock (flat_map watched (negated rule.conds)) here)
 
 -- and each region of an action is grown
 pub made_is_demanded : (program : Program) (memory : Memory) (rule : Rule) (c : Choice) (a : Action) (lock : ℕ) → Among a rule.actions → Among lock (grown_regions (splits_of program) rule (elements_at memory c.tags) a) → Among (lock, Grow) (demands_in program memory rule c)
 made_is_demanded program memory rule c a lock of_rule of_region =
     let grown = grown_regions (splits_of program) rule (elements_at memory c.tags) in
     Among-append_right (lock, Grow) (matched_demands c.tags ++ designated_demands rule c.tags ++ negated_of program memory rule c) (made_of program memory rule c)
-      (Among-map (λ l. (l, Grow)) lock (flat_map grown rule.actions) (Among-flat_map grown a lock rule.actions of_rule of_region))
+    (Among-map (λ l. (l, Grow)) lock (flat_map grown rule.actions) (Among-flat_map grown a lock rule.actions of_rule of_region))
 
 -- two demands that don't go together are a clash
 pub footprint-rule : (program : Program) (memory : Memory) (rule : Rule) (c : Choice) → slice_get program.rules c.rule ≡ Some rule → footprint program (with_elements memory c) ≡ gathered (demands_in program memory rule c)
@@ -101,4 +100,4 @@ pub ClashIn-demands : (program : Program) (memory : Memory) (rule other : Rule) 
 ClashIn-demands program memory rule other c d lock mode beside at at_other asked asked_too apart =
     let here = Clash-demands (demands_in program memory rule c) (demands_in program memory other d) lock mode beside asked asked_too apart in
     subst (λ f. Clash f (footprint program (with_elements memory d))) (sym (footprint-rule program memory rule c at))
-      (subst (λ f. Clash (gathered (demands_in program memory rule c)) f) (sym (footprint-rule program memory other d at_other)) here)
+    (subst (λ f. Clash (gathered (demands_in program memory rule c)) f) (sym (footprint-rule program memory other d at_other)) here)

@@ -1,5 +1,5 @@
 -- What the first of a list says: of tests that bind a variable, and of condition elements.
-use Rattle.std.proofs.Common.{◌≡◌, ℕ, ◌+◌, ◌<◌, List, [], ◌∷◌, ◌++◌, Bool, true, false, cond, not, ◌&&◌, ◌||◌, Option, Some, None, drop, find, get_or, is_some, length, option_and_then, slice_get, zero, suc, zip, ◌==◌, refl, sym, ◌∙◌, ap, subst, arith, drop-cons}
+use Rattle.std.proofs.Common.{◌≡◌, ℕ, ◌+◌, ◌<◌, List, [], ◌∷◌, ◌++◌, Bool, true, false, cond, not, ◌&&◌, ◌||◌, Option, Some, None, drop, find, get_or, is_some, length, option_and_then, slice_get, zero, suc, ◌==◌, refl, sym, ◌∙◌, ap, arith, drop-cons}
 use Rattle.std.specs.List.{flat_map, list_any}
 use Rattle.std.specs.Option.{option_or}
 use Rattle.rule_base.specs.declared.value.Value.{Value}
@@ -10,8 +10,8 @@ use Rattle.rule_base.specs.declared.condition.Cond.{Cond}
 use Rattle.rule_base.specs.Chains.{only_if}
 use Rattle.rule_base.specs.Sound.{bound_by_test, bound_variables}
 use Rattle.interference.specs.Given.{first_told, given, positive, taken, told_by, told_by_test, value_at}
-use Rattle.interference.specs.Pins.{first_answer, is_bound}
-use Rattle.interference.specs.Finding.{binds, binding_attribute, first_binding}
+use Rattle.interference.specs.Pins.{is_bound}
+use Rattle.interference.specs.Finding.{binds, first_binding}
 use Rattle.interference.proofs.GivenLemmas.{taken_by, vars_of}
 
 -- the item of a loop begins what is left

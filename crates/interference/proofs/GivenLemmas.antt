@@ -1,5 +1,5 @@
 -- What elements give variables: of a rule in which no variable is bound twice, each test that binds one tells it.
-use Rattle.std.proofs.Common.{◌≡◌, ℕ, List, [], ◌∷◌, ◌++◌, Bool, true, false, cond, not, Option, Some, None, ◌⊎◌, inl, inr, map, find, zip, option_and_then, nat_eq, ◌==◌, refl, sym, ◌∙◌, ap, subst}
+use Rattle.std.proofs.Common.{◌≡◌, ℕ, List, [], ◌∷◌, ◌++◌, Bool, true, false, cond, not, Option, Some, ◌⊎◌, inl, inr, map, find, zip, option_and_then, nat_eq, ◌==◌, refl, sym, ◌∙◌, ap, subst}
 use Rattle.std.specs.List.{IsDistinct, flat_map}
 use Rattle.std.proofs.lemmas.Bool.Decides.{Decides-eqb}
 use Rattle.std.proofs.lemmas.List.{map-append}
@@ -78,8 +78,8 @@ told_once_by true first conds elements distinct later = later elements
 told_once_by false first conds [] distinct later = tt
 told_once_by false first conds (e ∷ elements) distinct later =
     subst (IsDistinct nat_eq) (sym (vars_of_pairs first conds e elements))
-      (distinct_joined (vars_of first) (told_vars (told_by (taken conds elements))) (distinct_front (vars_of first) (bound_variables conds) distinct) (later elements)
-        (λ n left right. distinct_apart (vars_of first) (bound_variables conds) n distinct left (told_is_bound conds elements n right)))
+    (distinct_joined (vars_of first) (told_vars (told_by (taken conds elements))) (distinct_front (vars_of first) (bound_variables conds) distinct) (later elements)
+    (λ n left right. distinct_apart (vars_of first) (bound_variables conds) n distinct left (told_is_bound conds elements n right)))
 
 told_once : (conds : List Cond) (elements : List Element) → IsDistinct nat_eq (bound_variables conds) → IsDistinct nat_eq (told_vars (told_by (taken conds elements)))
 unfolding IsDistinct

@@ -1,6 +1,6 @@
 -- What the match of a sound rule's choice says of its elements, and of what they give.
-use Rattle.std.proofs.Common.{◌≡◌, ℕ, zero, suc, ◌+◌, List, [], ◌∷◌, Bool, true, false, cond, not, Option, Some, None, Result, Ok, Err, ◌⊎◌, inl, inr, filter_map, find, is_ok, is_some, length, map, replicate, nat_eq, option_and_then, slice_get, unwrap_or, ◌==◌, refl, sym, ◌∙◌, ap, subst, true≢false, arith}
-use Rattle.std.specs.List.{AllByRecursion, IsDistinct, cons_option, filter, flat_map, list_any}
+use Rattle.std.proofs.Common.{◌≡◌, ℕ, zero, suc, List, [], ◌∷◌, Bool, true, false, cond, not, Option, Some, None, Result, Ok, Err, inl, inr, find, is_ok, is_some, nat_eq, slice_get, unwrap_or, ◌==◌, refl, sym, ◌∙◌, ap, subst, true≢false}
+use Rattle.std.specs.List.{AllByRecursion, IsDistinct, cons_option, flat_map, list_any}
 use Rattle.std.specs.Option.{option_map_or}
 use Rattle.std.proofs.lemmas.Bool.Decides.{Decides-eqb}
 use Rattle.std.proofs.lemmas.List.{length-replicate}
@@ -17,14 +17,13 @@ use Rattle.rule_base.specs.Memory.{Memory, Rises, element_at, elements_at, tags_
 use Rattle.rule_base.specs.Bindings.{Bindings, binding_of, no_bindings, value_of}
 use Rattle.rule_base.specs.Match.{match_of}
 use Rattle.rule_base.specs.ConflictSet.{conflict_set}
-use Rattle.rule_base.specs.Sound.{IsSoundRule, bound_by_test, bound_variables}
+use Rattle.rule_base.specs.Sound.{IsSoundRule, bound_variables}
 use Rattle.rule_base.specs.State.{same_choice}
 use Rattle.rule_base.specs.Step.{is_listed, matches}
 use Rattle.rule_base.proofs.AmongLemmas.{Among, IsFound-find}
 use Rattle.rule_base.proofs.ChoiceLemmas.{same_choice-equal}
 use Rattle.rule_base.proofs.ConflictSetLemmas.{AllMatch-conflict_set}
 use Rattle.interference.specs.Given.{first_told, given, positive, taken, told_by, told_by_test, value_at}
-use Rattle.interference.specs.Pins.{is_bound}
 use Rattle.interference.proofs.ListLemmas.{Among-list_any, IsAmongOne-flat_map, one_source}
 use Rattle.interference.proofs.OptionLemmas.{Gave-some}
 use Rattle.interference.proofs.BindingLemmas.{Agrees, Agrees-nothing, HasValue, IsAccepted-accepts}
@@ -107,7 +106,7 @@ paired_by_sign false memory last first conds (tag ∷ tags) bindings rest walks 
     let accepted = IsAccepted-accepts first bindings walks.element walks.after walks.accepted in
     let elements : elements_at memory (tag ∷ tags) ≡ walks.element ∷ elements_at memory tags = ap (λ o. cons_option o (elements_at memory tags)) walks.at in
     subst (λ es. IsPaired (taken_by false first conds es) at e) (sym elements)
-      (paired_first first conds walks.element (elements_at memory tags) at e ((Decides-eqb first.class walks.element.class).0 accepted.class) (λ n. rest tags walks.after walks.rest n e) (subst (λ es. slice_get es at ≡ Some e) elements is))
+    (paired_first first conds walks.element (elements_at memory tags) at e ((Decides-eqb first.class walks.element.class).0 accepted.class) (λ n. rest tags walks.after walks.rest n e) (subst (λ es. slice_get es at ≡ Some e) elements is))
 
 pub IsPaired-walk : (memory : Memory) (last : Bindings) (conds : List Cond) → RestIsPaired memory last conds
 IsPaired-walk memory last [] [] bindings walks at e is = absurd (let wrong : ⊥ = cc in wrong)

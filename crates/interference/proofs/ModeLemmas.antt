@@ -1,5 +1,5 @@
 -- What demands come to: the mode asked of a lock covers each demand of it, and gathering them changes none.
-use Rattle.std.proofs.Common.{◌≡◌, ℕ, List, [], ◌∷◌, Bool, true, false, if◌then◌else◌, Option, Some, None, ◌⊎◌, inl, inr, fold, map, nat_lt, ◌==◌, refl, sym, ◌∙◌, ap, subst}
+use Rattle.std.proofs.Common.{◌≡◌, ℕ, List, [], ◌∷◌, Bool, true, false, if◌then◌else◌, Option, Some, None, inl, inr, fold, map, nat_lt, ◌==◌, refl, sym, ◌∙◌, ap, subst}
 use Rattle.std.proofs.lemmas.Bool.Decides.{Decides-eqb}
 use Rattle.rule_base.specs.declared.lock.Mode.{Mode}
 use Rattle.rule_base.specs.declared.lock.Mode.TheVariants.{Watch, Grow, Own}

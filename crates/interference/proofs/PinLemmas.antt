@@ -1,5 +1,5 @@
 -- What a negated condition element that accepts an element says of it: its attribute has the value that it is pinned to.
-use Rattle.std.proofs.Common.{◌≡◌, ℕ, List, [], ◌∷◌, Bool, true, false, ◌&&◌, Option, Some, None, ◌⊎◌, inl, inr, slice_get, option_and_then, ◌==◌, refl, sym, ◌∙◌, ap, subst}
+use Rattle.std.proofs.Common.{◌≡◌, ℕ, List, [], ◌∷◌, Bool, true, false, ◌&&◌, Option, Some, ◌⊎◌, inl, inr, slice_get, ◌==◌, refl, sym, ◌∙◌, ap, subst}
 use Rattle.std.specs.Option.{option_or}
 use Rattle.std.proofs.lemmas.Bool.Decides.{Decides-eqb, Decides-int_eq}
 use Rattle.rule_base.specs.declared.value.Value.{Value}
@@ -19,13 +19,12 @@ use Rattle.rule_base.specs.Bindings.{Bindings, binding_of, bound}
 use Rattle.rule_base.specs.Acceptance.{accepts, after_test, after_tests, compared_with}
 use Rattle.rule_base.specs.Sound.{bound_by_test}
 use Rattle.std.specs.List.{flat_map}
-use Rattle.rule_base.proofs.AmongLemmas.{Among, Among-append_right}
+use Rattle.rule_base.proofs.AmongLemmas.{Among}
 use Rattle.interference.specs.Given.{given}
 use Rattle.interference.specs.Pins.{first_answer, first_pin, is_bound, is_equality, is_told, pin}
 use Rattle.interference.specs.Regions.{pinned_value, told_value}
-use Rattle.interference.proofs.OptionLemmas.{Gave-some, GaveMapped-some, Held-some, both_hold}
+use Rattle.interference.proofs.OptionLemmas.{Gave-some, GaveMapped-some, both_hold}
 use Rattle.interference.proofs.BindingLemmas.{Agrees, IsAccepted-accepts, IsCompared, IsCompared-passed, bound_or_before, one_of_same}
-use Rattle.interference.proofs.GivenLemmas.{vars_of}
 
 -- values that are the same are equal
 same_value-equal : (a b : Value) → same_value a b ≡ true → a ≡ b
@@ -84,7 +83,7 @@ pinned_by_tests conds gives attr arg value (Bind at var ∷ tests) known b after
     let gave = Gave-some (after_test (Bind at var) b values) (λ mid. after_tests tests mid values) after passed in
     let taken = GaveMapped-some (slice_get values at) (bound b var) gave.first gave.is in
     pinned_by_tests conds gives attr arg value tests known gave.first after values (λ w is among. others w is (inr among))
-      (subst (AgreesWhereBound conds gives) taken.last_is (λ w x is now. by_either w x taken.first is (bound_or_before b var w taken.first x now))) gave.next_is first
+    (subst (AgreesWhereBound conds gives) taken.last_is (λ w x is now. by_either w x taken.first is (bound_or_before b var w taken.first x now))) gave.next_is first
   where
     by_either : (w : ℕ) (x new : Value) → is_bound conds w ≡ true → ((w ≡ var) × (new ≡ x)) ⊎ (binding_of b w ≡ Some x) → gives w ≡ Some x
     by_either w x new is (inl here) = absurd (others w is (inl here.0))
@@ -92,7 +91,7 @@ pinned_by_tests conds gives attr arg value (Bind at var ∷ tests) known b after
 pinned_by_tests conds gives attr arg value (Cmp at pred other ∷ tests) known b after values others agrees passed first =
     let gave = Gave-some (after_test (Cmp at pred other) b values) (λ mid. after_tests tests mid values) after passed in
     by_pin conds gives attr at pred other arg value tests b gave.first after values (is_equality pred && (at == attr) && is_told conds other) refl (IsCompared-passed at pred other b values gave.first gave.is) known
-      (pinned_by_tests conds gives attr arg value tests known) others agrees gave.next_is first
+    (pinned_by_tests conds gives attr arg value tests known) others agrees gave.next_is first
 pinned_by_tests conds gives attr arg value (OneOf at among ∷ tests) known b after values others agrees passed first =
     let gave = Gave-some (after_test (OneOf at among) b values) (λ mid. after_tests tests mid values) after passed in
     pinned_by_tests conds gives attr arg value tests known gave.first after values others (subst (AgreesWhereBound conds gives) (one_of_same at among b values gave.first gave.is) agrees) gave.next_is first

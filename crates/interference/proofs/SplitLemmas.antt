@@ -1,8 +1,7 @@
 -- The most pinned attribute that a loop found is the split, and one class more in the list of all splits.
-use Rattle.std.proofs.Common.{◌≡◌, ℕ, zero, suc, ◌+◌, ◌<◌, ◌≤◌, List, [], ◌∷◌, ◌++◌, Bool, true, false, cond, ◌&&◌, Option, Some, None, ◌⊎◌, inl, inr, find, length, map, nat_le, nat_lt, slice_get, take, refl, sym, ◌∙◌, ap, arith, rules, tests}
+use Rattle.std.proofs.Common.{◌≡◌, ℕ, zero, suc, ◌+◌, ◌<◌, ◌≤◌, List, [], ◌∷◌, ◌++◌, Bool, true, false, cond, ◌&&◌, Option, Some, None, ◌⊎◌, inl, inr, find, map, nat_le, nat_lt, slice_get, take, refl, sym, ◌∙◌, ap, arith, rules, tests}
 use Rattle.std.specs.List.{enumerate_from, list_all, range_with_len}
 use Rattle.rule_base.specs.declared.program.Rule.{Rule}
-use Rattle.rule_base.specs.declared.program.Class.{Class}
 use Rattle.rule_base.proofs.AmongLemmas.{Among}
 use Rattle.interference.specs.Splits.{is_most_pinned, pin_count, split}
 use Rattle.interference.specs.Counting.{IsMost}
@@ -19,7 +18,7 @@ find-range : (p : ℕ → Bool) (first count at : ℕ) → first ≤ at → at <
 find-range p first zero at from below passes before = absurd (omega (arith, from, below))
 find-range p first (suc count) at from below passes before =
     found_at p first at (range_with_len (first + 1) count) (p first) refl passes (first_or_later first at from) (λ above. before first (omega arith) (omega (arith, above)))
-      (λ above. find-range p (first + 1) count at above (omega (arith, below)) passes (λ k low high. before k (omega (arith, low)) high))
+    (λ above. find-range p (first + 1) count at above (omega (arith, below)) passes (λ k low high. before k (omega (arith, low)) high))
 
 not_found : (b : Bool) (first : ℕ) (rest : Option ℕ) → b ≡ false → rest ≡ None → cond b (Some first) rest ≡ None
 not_found true first rest is none = absurd (let wrong : ⊥ = cc in wrong)
@@ -65,16 +64,16 @@ le_false a b lt = search (rules, tests, lt)
 pub split-most : (rules' : List Rule) (class size most : ℕ) (found : Option ℕ) → IsMost rules' class size most found → found ≡ split rules' class size
 split-most rules' class size most None is =
     sym (find-range_none (is_most_pinned rules' class (range_with_len 0 size)) 0 size
-      (λ k low high. one_fails (nat_lt 0 (pin_count rules' class k)) (list_all (λ other. nat_le (pin_count rules' class other) (pin_count rules' class k)) (range_with_len 0 size)) (ap (nat_lt 0) (is.1 k (omega (arith, high))))))
+    (λ k low high. one_fails (nat_lt 0 (pin_count rules' class k)) (list_all (λ other. nat_le (pin_count rules' class other) (pin_count rules' class k)) (range_with_len 0 size)) (ap (nat_lt 0) (is.1 k (omega (arith, high))))))
 split-most rules' class size most (Some attr) is =
     let count : ℕ → ℕ = pin_count rules' class in
     let passes : is_most_pinned rules' class (range_with_len 0 size) attr ≡ true =
-      both_true (nat_lt 0 (count attr)) (list_all (λ other. nat_le (count other) (count attr)) (range_with_len 0 size)) (ap (nat_lt 0) is.1 ∙ lt_true 0 most is.2)
-        (all_range (λ other. nat_le (count other) (count attr)) 0 size (λ k low high. ap (nat_le (count k)) is.1 ∙ le_true (count k) most (is.4 k (omega (arith, high))))) in
+    both_true (nat_lt 0 (count attr)) (list_all (λ other. nat_le (count other) (count attr)) (range_with_len 0 size)) (ap (nat_lt 0) is.1 ∙ lt_true 0 most is.2)
+    (all_range (λ other. nat_le (count other) (count attr)) 0 size (λ k low high. ap (nat_le (count k)) is.1 ∙ le_true (count k) most (is.4 k (omega (arith, high))))) in
     sym (find-range (is_most_pinned rules' class (range_with_len 0 size)) 0 size attr (omega arith) (omega (arith, is.0)) passes
-      (λ k low high. rest_fails (nat_lt 0 (count k)) (list_all (λ other. nat_le (count other) (count k)) (range_with_len 0 size))
-        (not_all (λ other. nat_le (count other) (count k)) attr (range_with_len 0 size) (Among-range 0 size attr (omega arith) (omega (arith, is.0)))
-          (ap (λ n. nat_le n (count k)) is.1 ∙ le_false most (count k) (is.3 k high)))))
+    (λ k low high. rest_fails (nat_lt 0 (count k)) (list_all (λ other. nat_le (count other) (count k)) (range_with_len 0 size))
+    (not_all (λ other. nat_le (count other) (count k)) attr (range_with_len 0 size) (Among-range 0 size attr (omega arith) (omega (arith, is.0)))
+    (ap (λ n. nat_le n (count k)) is.1 ∙ le_false most (count k) (is.3 k high)))))
 
 -- one class more
 pub map-enumerate_next : {X Y : Type 0} (f : ℕ × X → Y) (first : ℕ) (xs : List X) (at : ℕ) (x : X) → slice_get xs at ≡ Some x → map f (enumerate_from first (take (at + 1) xs)) ≡ map f (enumerate_from first (take at xs)) ++ f (first + at, x) ∷ []
@@ -89,4 +88,3 @@ map-enumerate_next f first (y ∷ xs) (suc at) x is =
     ap (λ n. map f (enumerate_from first (take n (y ∷ xs)))) next
     ∙ ap (λ rest. f (first, y) ∷ rest) (map-enumerate_next f (first + 1) xs at x is)
     ∙ ap (λ n. f (first, y) ∷ (map f (enumerate_from (first + 1) (take at xs)) ++ f (n, x) ∷ [])) place
-

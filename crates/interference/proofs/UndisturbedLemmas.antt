@@ -1,7 +1,7 @@
 -- Of two choices that don't clash neither disturbs the other: what the other matched stays, and nothing comes that its
 -- negated condition elements accept.
-use Rattle.std.proofs.Common.{◌≡◌, ℕ, ◌+◌, List, [], ◌∷◌, ◌++◌, Bool, true, false, cond, not, Option, Some, None, Result, Ok, ◌⊎◌, inl, inr, filter_map, find, is_some, map, option_and_then, slice_get, unwrap_or, ◌==◌, refl, sym, ◌∙◌, ap, subst, true≢false}
-use Rattle.std.specs.List.{AllByRecursion, cons_option, filter, list_any}
+use Rattle.std.proofs.Common.{◌≡◌, ℕ, ◌+◌, List, [], ◌∷◌, ◌++◌, Bool, true, false, cond, not, Option, Some, None, Ok, ◌⊎◌, inl, inr, find, is_some, map, slice_get, unwrap_or, ◌==◌, refl, sym, ◌∙◌, ap, subst, true≢false}
+use Rattle.std.specs.List.{cons_option, filter, list_any}
 use Rattle.std.proofs.lemmas.Bool.Decides.{Decides-eqb}
 use Rattle.rule_base.specs.declared.lock.Mode.{Mode}
 use Rattle.rule_base.specs.declared.lock.Mode.TheVariants.{Watch, Grow, Own}
@@ -18,10 +18,10 @@ use Rattle.rule_base.specs.declared.program.Program.{Program}
 use Rattle.rule_base.specs.Memory.{Memory, element_at, elements_at}
 use Rattle.rule_base.specs.Bindings.{Bindings, no_bindings}
 use Rattle.rule_base.specs.Acceptance.{accepts}
-use Rattle.rule_base.specs.Match.{accepts_some, match_of}
-use Rattle.rule_base.specs.Effect.{Effect, Progress, after_actions, beginning, effect, removed_tag, removed_tags}
+use Rattle.rule_base.specs.Match.{match_of}
+use Rattle.rule_base.specs.Effect.{Effect, Progress, after_actions, beginning, effect, removed_tags}
 use Rattle.rule_base.specs.Sound.{IsSound, IsSoundRule, sizes_of}
-use Rattle.rule_base.specs.State.{IsState, State, has_fired, same_choice}
+use Rattle.rule_base.specs.State.{IsState, State, same_choice}
 use Rattle.rule_base.specs.Step.{born, committed, is_listed, memory_after, step, still_fired, without}
 use Rattle.rule_base.proofs.AmongLemmas.{Among, Among-map, IsFound-find, list_any-among}
 use Rattle.rule_base.proofs.ChoiceLemmas.{any_filtered, same_choice-equal, same_choice-itself}
@@ -31,9 +31,9 @@ use Rattle.rule_base.proofs.ElementMatchLemmas.{bindings_with-elements_at}
 use Rattle.rule_base.proofs.ListedLemmas.{list_any-matches}
 use Rattle.rule_base.proofs.MachineLemmas.{HasRule-effect_of}
 use Rattle.rule_base.proofs.RunLemmas.{matches_at_step}
-use Rattle.rule_base.proofs.StepLemmas.{IsStep, IsStep-from_step}
+use Rattle.rule_base.proofs.StepLemmas.{IsStep-from_step}
 use Rattle.interference.specs.Locks.{region, stripe}
-use Rattle.interference.specs.Given.{given, taken}
+use Rattle.interference.specs.Given.{given}
 use Rattle.interference.specs.Regions.{pinned_value, regions_by, watched_regions}
 use Rattle.interference.specs.Splits.{split_of, splits_of}
 use Rattle.interference.specs.PhantomLaw.{ClashIn, IsReady, IsUndisturbed}
@@ -62,7 +62,7 @@ effect_is_asked_for program memory rule c last done matched is ok change among =
     let same : gave.first.done ≡ done = let last_is = gave.next_is in cc in
     let begins : last ≡ (beginning rule elements).bindings = ap (λ o. unwrap_or o (no_bindings rule.vars)) (sym (bindings_with-elements_at rule c.tags memory last is)) in
     changes_are_asked_for (splits_of program) rule elements (demands_in program memory rule c) (beginning rule elements) gave.first (HoldDemands-choice program memory rule c last matched) refl
-      (subst (HasGiven rule elements) begins matched.has) gave.is change (subst (λ (d : Effect). Among change d.changes) (sym same) among)
+    (subst (HasGiven rule elements) begins matched.has) gave.is change (subst (λ (d : Effect). Among change d.changes) (sym same) among)
 
 -- an element of a match that doesn't clash is not removed
 removed_is_owned : (splits : List (Option ℕ)) (demands : List (ℕ × Mode)) (changes : List Change) (tag : ℕ) → ((change : Change) → Among change changes → IsAskedFor splits demands change) → Among tag (removed_tags changes) → Among (stripe tag, Own) demands
@@ -161,9 +161,9 @@ matched_stays program s c d done apart other tag among =
     let stays : Element → Bool = λ (x : Element). not (list_any (λ t. t == x.tag) gone) in
     let tag_is : e.tag ≡ tag = (Decides-eqb e.tag tag).0 (IsFound-find (λ (x : Element). x.tag == tag) s.memory e found.1).passes in
     let left : list_any (λ t. t == e.tag) gone ≡ false =
-      not_none (list_any (λ t. t == e.tag) gone) (λ any. apart.no_clash (ClashIn-demands program s.memory apart.rule other.rule c d (stripe e.tag) Own Watch apart.at other.at
-        (removed_is_owned (splits_of program) (demands_in program s.memory apart.rule c) done.changes e.tag apart.asked (Among-list_any e.tag gone any))
-        (subst (λ t. Among (stripe t, Watch) (demands_in program s.memory other.rule d)) (sym tag_is) (matched_is_demanded program s.memory other.rule d tag among)) refl)) in
+    not_none (list_any (λ t. t == e.tag) gone) (λ any. apart.no_clash (ClashIn-demands program s.memory apart.rule other.rule c d (stripe e.tag) Own Watch apart.at other.at
+    (removed_is_owned (splits_of program) (demands_in program s.memory apart.rule c) done.changes e.tag apart.asked (Among-list_any e.tag gone any))
+    (subst (λ t. Among (stripe t, Watch) (demands_in program s.memory other.rule d)) (sym tag_is) (matched_is_demanded program s.memory other.rule d tag among)) refl)) in
     let kept : stays e ≡ true = ap not left in
     find-append (λ (x : Element). x.tag == tag) e (without s.memory gone) (born s.next done.changes) (find-filter (λ (x : Element). x.tag == tag) stays e s.memory found.1 kept) ∙ sym found.1
 
@@ -179,9 +179,9 @@ nothing_accepted_comes program s c d done apart other n b after e of_rule is agr
     let grown = born_is_grown splits (demands_in program s.memory apart.rule c) done.changes s.next e apart.asked comes in
     let meet = regions_meet (split_of splits e.class) pinned grown.known e.values (λ attr value known. pinned_value-accepted other.rule.conds elements n b after e attr value others agrees accepted known) grown.so in
     let watched : Among (region e.class meet.number) (watched_regions splits other.rule elements n) =
-      subst (λ k. Among (region e.class meet.number) (map (region k) (regions_by (split_of splits k) pinned))) (sym class) (Among-map (region e.class) meet.number (regions_by (split_of splits e.class) pinned) meet.of_one) in
+    subst (λ k. Among (region e.class meet.number) (map (region k) (regions_by (split_of splits k) pinned))) (sym class) (Among-map (region e.class) meet.number (regions_by (split_of splits e.class) pinned) meet.of_one) in
     apart.no_clash (ClashIn-demands program s.memory apart.rule other.rule c d (region e.class meet.number) Grow Watch apart.at other.at
-      (grown.grown meet.number meet.of_other) (negated_is_demanded program s.memory other.rule d n (region e.class meet.number) of_rule is watched) refl)
+    (grown.grown meet.number meet.of_other) (negated_is_demanded program s.memory other.rule d n (region e.class meet.number) of_rule is watched) refl)
 
 -- so what its negated condition elements refused they refuse
 refuses_later : (program : Program) (s : State) (c d : Choice) (done : Effect) (apart : Apart program s.memory c d done.changes) (other : Matched program s.memory d) (n : Cond) → Among n other.rule.conds → RefusesLater (given other.rule.conds (elements_at s.memory d.tags)) s.memory (memory_after s done) n
@@ -201,7 +201,7 @@ same_match program s c d done apart other =
     let gives = given other.rule.conds (elements_at s.memory d.tags) in
     let bindings = no_bindings other.rule.vars in
     match_from-Walks 1 other.rule.conds (memory_after s done) other.last d.tags bindings
-      (Walks-later gives s.memory (memory_after s done) other.last other.rule.conds (refuses_later program s c d done apart other) d.tags bindings (matched_stays program s c d done apart other) other.matched.tells (Agrees-nothing gives other.rule.vars) other.matched.walks)
+    (Walks-later gives s.memory (memory_after s done) other.last other.rule.conds (refuses_later program s c d done apart other) d.tags bindings (matched_stays program s c d done apart other) other.matched.tells (Agrees-nothing gives other.rule.vars) other.matched.walks)
 
 -- the elements at tags are the same where each is
 same_elements : (memory later : Memory) (tags : List ℕ) → ((tag : ℕ) → Among tag tags → element_at later tag ≡ element_at memory tag) → elements_at later tags ≡ elements_at memory tags
@@ -238,9 +238,9 @@ undisturbed program s c d done apart other differs ready =
       };
       elements = same_elements s.memory later d.tags (matched_stays program s c d done apart other);
       bindings = λ rule at.
-        let same : Some other.rule ≡ Some rule = sym other.at ∙ at in
-        let rule_is : other.rule ≡ rule = cc in
-        subst (λ (r : Rule). match_of r d.tags later ≡ match_of r d.tags s.memory) rule_is (match ∙ sym other.is);
+          let same : Some other.rule ≡ Some rule = sym other.at ∙ at in
+          let rule_is : other.rule ≡ rule = cc in
+          subst (λ (r : Rule). match_of r d.tags later ≡ match_of r d.tags s.memory) rule_is (match ∙ sym other.is);
     }
 
 -- of two different choices that are ready and don't clash, neither disturbs the other

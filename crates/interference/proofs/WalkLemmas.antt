@@ -1,9 +1,8 @@
 -- The walk of a match, condition element by condition element, and when a later memory has the same.
-use Rattle.std.proofs.Common.{◌≡◌, ℕ, ◌+◌, List, [], ◌∷◌, Bool, true, false, not, Option, Some, None, ◌⊎◌, inl, inr, Result, Ok, Err, length, option_and_then, option_map, refl, sym, ◌∙◌, ap, subst}
-use Rattle.std.specs.List.{AllByRecursion, cons_option}
+use Rattle.std.proofs.Common.{◌≡◌, ℕ, ◌+◌, List, [], ◌∷◌, Bool, true, false, not, Option, Some, None, inl, inr, Result, Ok, length, option_and_then, option_map, refl, sym, ◌∙◌, ap, subst}
+use Rattle.std.specs.List.{cons_option}
 use Rattle.rule_base.specs.declared.value.Value.{Value}
 use Rattle.rule_base.specs.declared.element.Element.{Element}
-use Rattle.rule_base.specs.declared.condition.Test.{Test}
 use Rattle.rule_base.specs.declared.condition.Test.TheVariants.{Bind}
 use Rattle.rule_base.specs.declared.condition.Cond.{Cond}
 use Rattle.rule_base.specs.Chains.{only_if}
@@ -14,7 +13,6 @@ use Rattle.rule_base.specs.Match.{accepts_some, after_cond, go_on, match_from}
 use Rattle.rule_base.specs.Sound.{SoundConds, known_after_cond}
 use Rattle.rule_base.proofs.AmongLemmas.{Among}
 use Rattle.interference.specs.Given.{taken}
-use Rattle.interference.proofs.OptionLemmas.{Gave, Gave-some}
 use Rattle.interference.proofs.BindingLemmas.{Agrees, Agrees-accepted, HasValue, IsAccepted-accepts, IsFilled-tests, Tells}
 use Rattle.interference.proofs.GivenLemmas.{taken_by}
 

@@ -1,5 +1,5 @@
 -- Footprints: the locks that a candidate asks for, each with its mode, and when two of them clash.
-use Rattle.std.specs.Prelude.{◌≡◌, ℕ, List, [], ◌∷◌, ◌++◌, Bool, false, if◌then◌else◌, Option, Some, filter_map, flat_map, fold, map, nat_lt, slice_get, ◌==◌}
+use Rattle.std.specs.Prelude.{◌≡◌, ℕ, List, [], ◌∷◌, ◌++◌, false, if◌then◌else◌, Option, Some, filter_map, flat_map, fold, map, nat_lt, slice_get, ◌==◌}
 use Rattle.std.specs.Option.{option_map_or}
 use Rattle.rule_base.specs.declared.lock.Mode.{Mode}
 use Rattle.rule_base.specs.declared.lock.Mode.TheVariants.{Watch, Grow, Own}

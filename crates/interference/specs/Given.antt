@@ -1,5 +1,5 @@
 -- What a candidate gives its rule's variables: the values that they have in its elements.
-use Rattle.std.specs.Prelude.{ℕ, List, [], ◌∷◌, Bool, not, Option, filter, find, flat_map, zip, slice_get, option_and_then, ◌==◌}
+use Rattle.std.specs.Prelude.{ℕ, List, [], ◌∷◌, not, Option, filter, find, flat_map, zip, slice_get, option_and_then, ◌==◌}
 use Rattle.rule_base.specs.declared.value.Value.{Value}
 use Rattle.rule_base.specs.declared.element.Element.{Element}
 use Rattle.rule_base.specs.declared.condition.Test.{Test}

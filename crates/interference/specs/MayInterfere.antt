@@ -1,5 +1,5 @@
 -- Whether firings of two rules may interfere at all, as the rules alone tell it: by what they ask of whole classes.
-use Rattle.std.specs.Prelude.{ℕ, List, [], ◌∷◌, ◌++◌, Bool, false, not, ◌||◌, Option, Some, None, filter_map, flat_map, length, map, option_map, option_to_list, slice_get, ◌==◌}
+use Rattle.std.specs.Prelude.{ℕ, List, [], ◌∷◌, ◌++◌, Bool, false, not, ◌||◌, Option, Some, None, filter_map, flat_map, length, map, option_to_list, slice_get, ◌==◌}
 use Rattle.std.specs.List.{list_any, range_with_len}
 use Rattle.std.specs.Option.{option_map_or}
 use Rattle.rule_base.specs.declared.lock.Mode.{Mode}

@@ -1,5 +1,5 @@
 -- The law that firing side by side rests on: firings whose footprints don't clash don't disturb one another.
-use Rattle.std.specs.Prelude.{◌≡◌, List, Bool, true, false, Some, slice_get}
+use Rattle.std.specs.Prelude.{◌≡◌, true, false, Some, slice_get}
 use Rattle.rule_base.specs.declared.instantiation.Choice.{Choice}
 use Rattle.rule_base.specs.declared.instantiation.Candidate.{Candidate}
 use Rattle.rule_base.specs.declared.program.Rule.{Rule}

@@ -2,7 +2,6 @@
 use Rattle.std.specs.Prelude.{ℕ, List, [], ◌∷◌, Bool, true, false, ◌&&◌, Option, None, is_some, ◌==◌}
 use Rattle.std.specs.List.{list_any}
 use Rattle.std.specs.Option.{option_or}
-use Rattle.rule_base.specs.declared.value.Value.{Value}
 use Rattle.rule_base.specs.declared.condition.Arg.{Arg}
 use Rattle.rule_base.specs.declared.condition.Arg.TheVariants.{Con, Var}
 use Rattle.rule_base.specs.declared.condition.Pred.{Pred}
@@ -13,7 +12,6 @@ use Rattle.rule_base.specs.declared.condition.Cond.{Cond}
 use Rattle.rule_base.specs.Chains.{only_if}
 use Rattle.rule_base.specs.Sound.{bound_variables}
 use Rattle.interference.specs.Given.{positive}
-
 
 -- the first answer that there is, going through a list
 abbrev pub first_answer : {A B : Type 0} → (A → Option B) → List A → Option B

@@ -113,11 +113,7 @@ fn demand_tags(
 }
 
 /// Owns the element of this designator.
-fn demand_tag(
-    designator: u32,
-    tags: &[u64],
-    out: &mut Vec<(u32, Mode)>,
-) -> Result<(), OutOfMemory>
+fn demand_tag(designator: u32, tags: &[u64], out: &mut Vec<(u32, Mode)>) -> Result<(), OutOfMemory>
     ensures { OnOk result (out.new.items ≡ with_demands out.old.items (in_mode Own (designated_locks tags.now (designator ∷ [])))) }
 {
     match tags.get(designator as usize) {
@@ -189,7 +185,11 @@ fn demand_action(
     ensures { OnOk result (out.new.items ≡ with_demands out.old.items (in_mode Grow (grown_regions splits.now rule.now elements.now action.now))) }
 {
     match action {
-        Action::Make { class, size: _, sets } => {
+        Action::Make {
+            class,
+            size: _,
+            sets,
+        } => {
             let region = made_region(splits, rule, elements, *class, sets.as_slice());
             demand_regions(*class, region, Mode::Grow, out)
         }

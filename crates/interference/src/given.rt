@@ -7,7 +7,7 @@ ghost use Rattle.interference.specs.Finding.{binds, first_binding};
 ghost use Rattle.interference.specs.Pins.{first_pin, is_bound, is_told, pin};
 ghost use Rattle.interference.specs.Regions.{pinned_value, told_value};
 
-use rule_base::{Arg, Cond, Elements, ElementView, Pred, Test, Value};
+use rule_base::{Arg, Cond, ElementView, Elements, Pred, Test, Value};
 
 /// The value that the elements give a variable, if they do. It goes through the tests of the positive
 /// condition elements, up to the first that binds the variable.
@@ -71,7 +71,12 @@ pub fn first_pin(conds: &[Cond], attr: u32, cond: &Cond) -> Option<Arg>
 fn pin(conds: &[Cond], attr: u32, test: &Test) -> Option<Arg>
     ensures { result ≡ pin conds.now attr test.now }
 {
-    let Test::Cmp { attr: at, pred, arg } = test else {
+    let Test::Cmp {
+        attr: at,
+        pred,
+        arg,
+    } = test
+    else {
         return None;
     };
     if *pred == Pred::Eq && *at == attr && is_told(conds, *arg) {
@@ -110,12 +115,7 @@ fn binds(cond: &Cond, var: u32) -> bool
 }
 
 /// The value to which the condition element pins the attribute, if it is known.
-pub fn pinned_value(
-    conds: &[Cond],
-    elements: &Elements,
-    cond: &Cond,
-    attr: u32,
-) -> Option<Value>
+pub fn pinned_value(conds: &[Cond], elements: &Elements, cond: &Cond, attr: u32) -> Option<Value>
     ensures { result ≡ pinned_value conds.now elements.now cond.now attr }
 {
     match first_pin(conds, attr, cond) {

@@ -2,8 +2,8 @@
 //! network; a lock is a number here, and a footprint a list of locks with modes.
 #![tactic(auto)]
 
-pub mod examples;
 mod demands;
+pub mod examples;
 mod given;
 pub mod laws;
 mod modes;

@@ -7,11 +7,7 @@ ghost use Rattle.interference.specs.Finding.{place_of};
 use rule_base::{Cases, Mode};
 
 /// A row and a column for each mode, in the order of `Mode`.
-const GO_TOGETHER: [[u8; 3]; 3] = [
-    [1, 0, 0],
-    [0, 1, 0],
-    [0, 0, 0],
-];
+const GO_TOGETHER: [[u8; 3]; 3] = [[1, 0, 0], [0, 1, 0], [0, 0, 0]];
 
 /// Whether two firings may hold a lock in these modes side by side.
 pub fn compatible(a: Mode, b: Mode) -> bool

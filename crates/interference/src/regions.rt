@@ -14,7 +14,7 @@ ghost use Rattle.interference.specs.Finding.{numbers};
 
 use crate::Splits;
 use crate::given::{given, pinned_value, value_at};
-use rule_base::{Action, Cond, Elements, ElementView, Rule, Term, Value};
+use rule_base::{Action, Cond, ElementView, Elements, Rule, Term, Value};
 
 /// The bucket of a value, from 0 to 15.
 fn bucket(value: Value) -> u32
@@ -39,19 +39,12 @@ fn region_of_value(value: Option<Value>) -> Option<u32>
 }
 
 /// The region that a negated condition element watches, or none for all regions of its class.
-pub fn watched_region(
-    splits: &Splits,
-    rule: &Rule,
-    elements: &Elements,
-    cond: &Cond,
-) -> Option<u32>
+pub fn watched_region(splits: &Splits, rule: &Rule, elements: &Elements, cond: &Cond) -> Option<u32>
     ensures region { numbers result ≡ regions_by (split_of splits.now cond.now.class) (pinned_value rule.now.conds elements.now cond.now) }
     ensures few { IfSome result (λ number. number < 16) }
 {
     match splits.of(cond.class) {
-        Some(attr) => {
-            region_of_value(pinned_value(rule.conds.as_slice(), elements, cond, attr))
-        }
+        Some(attr) => { region_of_value(pinned_value(rule.conds.as_slice(), elements, cond, attr)) }
         None => Some(0),
     }
 }
@@ -144,7 +137,10 @@ fn sets(action: &Action, var: u32) -> bool
     ensures { result ≡ sets var action.now }
 {
     match action {
-        Action::Bind { var: other, term: _ } => *other == var,
+        Action::Bind {
+            var: other,
+            term: _,
+        } => *other == var,
         _ => false,
     }
 }

@@ -114,7 +114,11 @@ fn action_grows(conds: &[Cond], action: &Action, class: usize) -> bool
     ensures { result ≡ list_any (λ k. k == class) (grown_classes conds.now action.now) }
 {
     match action {
-        Action::Make { class: made, size: _, sets: _ } => *made as usize == class,
+        Action::Make {
+            class: made,
+            size: _,
+            sets: _,
+        } => *made as usize == class,
         Action::Modify { at, sets: _ } => match class_at(conds, *at) {
             Some(made) => made as usize == class,
             None => false,
@@ -138,14 +142,20 @@ fn class_at(conds: &[Cond], at: u32) -> Option<u32>
 fn takes_from(one: &Rule, other: &Rule) -> bool
     ensures { result ≡ takes_from one.now other.now }
 {
-    any_takes(one.actions.as_slice(), one.conds.as_slice(), other.conds.as_slice())
+    any_takes(
+        one.actions.as_slice(),
+        one.conds.as_slice(),
+        other.conds.as_slice(),
+    )
 }
 
 /// Whether one of the actions takes from the other condition elements.
 fn any_takes(actions: &[Action], conds: &[Cond], others: &[Cond]) -> bool
     ensures { result ≡ list_any (λ a. list_any (takes_at conds.now others.now) (designators a)) actions.now }
 {
-    actions.iter().any(|action| action_takes(action, conds, others))
+    actions
+        .iter()
+        .any(|action| action_takes(action, conds, others))
 }
 
 /// The same of one action of the rule.

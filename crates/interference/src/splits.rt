@@ -14,7 +14,7 @@ use std::alloc::Global;
 use std::marker::Model;
 
 /// The splits of a program's classes: of each the number of an attribute, or none.
-#[derive(Debug, Drop)]
+#[derive(Drop)]
 pub struct Splits {
     attributes: Vec<Option<u32>>,
 }

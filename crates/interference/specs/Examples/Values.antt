@@ -1,5 +1,5 @@
 -- Buckets, pins and splits of small programs.
-use Rattle.std.specs.Prelude.{◌≡◌, ℕ, List, [], ◌∷◌, true, false, Some, None, negsuc}
+use Rattle.std.specs.Prelude.{◌≡◌, List, [], ◌∷◌, true, false, Some, None, negsuc}
 use Rattle.rule_base.specs.declared.value.Value.TheVariants.{Int, Sym}
 use Rattle.rule_base.specs.declared.condition.Pred.TheVariants.{Gt}
 use Rattle.rule_base.specs.declared.condition.Arg.TheVariants as arg

@@ -1,5 +1,5 @@
 -- One action more.
-use Rattle.std.proofs.Common.{◌≡◌, ◌+◌, drop, flat_map, sym, ◌∙◌, ap}
+use Rattle.std.proofs.Common.{◌+◌, drop, flat_map, sym, ◌∙◌, ap}
 use Rattle.rule_base.specs.declared.lock.Mode.TheVariants.{Own}
 use Rattle.interference.specs.Footprint.{designators, in_mode}
 use Rattle.interference.specs.Finding.{designated_locks, with_demands}

@@ -1,7 +1,7 @@
 -- The actions that are left add the rest.
-use Rattle.std.proofs.Common.{◌≡◌, drop, flat_map, map}
-use Rattle.rule_base.specs.declared.lock.Mode.TheVariants.{Watch, Grow, Own}
-use Rattle.interference.specs.Footprint.{designators, in_mode, matched_demands}
+use Rattle.std.proofs.Common.{◌≡◌, drop, flat_map}
+use Rattle.rule_base.specs.declared.lock.Mode.TheVariants.{Own}
+use Rattle.interference.specs.Footprint.{designators, in_mode}
 use Rattle.interference.specs.Finding.{designated_locks, with_demands}
 use Rattle.interference.proofs.demands.demand_designated.Given as goal
 

@@ -1,8 +1,8 @@
 -- The actions that are left add the rest.
-use Rattle.std.proofs.Common.{◌≡◌, drop, flat_map, map}
-use Rattle.rule_base.specs.declared.lock.Mode.TheVariants.{Watch, Grow, Own}
-use Rattle.interference.specs.Footprint.{designators, in_mode, matched_demands}
-use Rattle.interference.specs.Finding.{designated_locks, with_demands}
+use Rattle.std.proofs.Common.{◌≡◌, drop, flat_map}
+use Rattle.rule_base.specs.declared.lock.Mode.TheVariants.{Grow}
+use Rattle.interference.specs.Footprint.{in_mode}
+use Rattle.interference.specs.Finding.{with_demands}
 use Rattle.interference.specs.Regions.{grown_regions}
 use Rattle.interference.proofs.demands.demand_made.Given as goal
 

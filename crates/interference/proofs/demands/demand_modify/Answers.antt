@@ -1,5 +1,5 @@
 -- What stands at the place of the designator says which regions.
-use Rattle.std.proofs.Common.{◌≡◌, ◌≤◌, ◌<◌, [], List, ℕ, None, Some, OnOk, length, map, slice_get, sym, ◌∙◌, ap, arith, subst}
+use Rattle.std.proofs.Common.{◌≡◌, ◌≤◌, List, ℕ, None, Some, OnOk, length, map, slice_get, sym, ◌∙◌, ap, arith, subst}
 use Rattle.std.specs.Option.{option_copied}
 use Rattle.rule_base.specs.Views.{element_in}
 use Rattle.rule_base.specs.declared.lock.Mode.TheVariants.{Grow}
@@ -30,4 +30,4 @@ returns c =
     let at : slice_get (positive c.args.rule.now.conds) c.args.at ≡ Some c.in-Some.cond.now = ap (λ conds. slice_get (positive conds) c.args.at) (sym c.as_slice.ensures) ∙ sym c.positive_at.ensures ∙ ap option_copied c.in-Some.is in
     let grown = grown-at c.args.splits.now c.args.rule.now c.args.elements.now c.args.at c.args.sets.now c.in-Some.cond.now (element_in c.at.result) at c.at.ensures in
     subst (λ (locks : List ℕ). OnOk c.demand_regions.result (c.demand_regions.new.out.items ≡ with_demands c.args.out.now.items (in_mode Grow locks)))
-      (ap (map (region c.in-Some.cond.now.class)) c.remade_region-region.ensures.region ∙ sym grown) c.demand_regions.ensures
+    (ap (map (region c.in-Some.cond.now.class)) c.remade_region-region.ensures.region ∙ sym grown) c.demand_regions.ensures

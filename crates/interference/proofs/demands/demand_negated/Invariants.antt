@@ -1,8 +1,8 @@
 -- The condition elements that are left add the rest.
-use Rattle.std.proofs.Common.{◌≡◌, drop, flat_map, map}
-use Rattle.rule_base.specs.declared.lock.Mode.TheVariants.{Watch, Grow, Own}
-use Rattle.interference.specs.Footprint.{designators, in_mode, matched_demands}
-use Rattle.interference.specs.Finding.{designated_locks, with_demands}
+use Rattle.std.proofs.Common.{◌≡◌, drop, flat_map}
+use Rattle.rule_base.specs.declared.lock.Mode.TheVariants.{Watch}
+use Rattle.interference.specs.Footprint.{in_mode}
+use Rattle.interference.specs.Finding.{with_demands}
 use Rattle.interference.specs.Given.{negated}
 use Rattle.interference.specs.Regions.{watched_regions}
 use Rattle.interference.proofs.demands.demand_negated.Given as goal

@@ -1,5 +1,5 @@
 -- One region more.
-use Rattle.std.proofs.Common.{◌≡◌, ◌+◌, drop, map, sym, ◌∙◌, ap}
+use Rattle.std.proofs.Common.{◌+◌, drop, map, sym, ◌∙◌, ap}
 use Rattle.interference.specs.Locks.{every_region, region}
 use Rattle.interference.specs.Footprint.{in_mode}
 use Rattle.interference.specs.Finding.{with_demands}

@@ -1,5 +1,5 @@
 -- The rule is sound.
-use Rattle.std.proofs.Common.{sym, ◌∙◌, ap}
+use Rattle.std.proofs.Common.{sym}
 use Rattle.interference.proofs.DemandCodeLemmas.{HasFewClasses-sound}
 use Rattle.interference.proofs.demands.footprint.Goals as goal
 

@@ -1,5 +1,5 @@
 -- Two footprints without a lock in common don't clash, and two with one in `Own` do.
-use Rattle.std.proofs.Common.{◌≡◌, ℕ, List, [], ◌∷◌, ◌⊎◌, inl, inr, refl, sym, ◌∙◌, arith}
+use Rattle.std.proofs.Common.{◌≡◌, ℕ, [], ◌∷◌, ◌⊎◌, inl, inr, refl, arith}
 use Rattle.rule_base.specs.declared.lock.Mode.TheVariants.{Watch, Own}
 use Rattle.rule_base.proofs.AmongLemmas.{Among}
 use Rattle.interference.specs.Examples.Footprints.{once_with}
@@ -21,8 +21,8 @@ no_lock_of_both lock (inr one) (inr other) = omega (arith, one, other)
 
 no_clash : Clash (footprint once (once_with 1 7)) (footprint once (once_with 2 8)) → ⊥
 no_clash clash = no_lock_of_both clash.lock
-  (of_two clash.lock 1 1047 (Among-asks ((1, Watch) ∷ (1047, Own) ∷ []) clash.lock clash.mode clash.asked))
-  (of_two clash.lock 2 1048 (Among-asks ((2, Watch) ∷ (1048, Own) ∷ []) clash.lock clash.beside clash.asked_too))
+    (of_two clash.lock 1 1047 (Among-asks ((1, Watch) ∷ (1047, Own) ∷ []) clash.lock clash.mode clash.asked))
+    (of_two clash.lock 2 1048 (Among-asks ((2, Watch) ∷ (1048, Own) ∷ []) clash.lock clash.beside clash.asked_too))
 
 pub returns-clause-clashes : goal.returns-clause-clashes
 returns-clause-clashes c = record {

@@ -16,7 +16,7 @@ returns-in-Some c =
     let elements = drop (c.loop-cond.at + 1) c.args.elements.now in
     let binds : first_binding var c.cond-item.result.tests ≡ Some c.in-Some.attr = sym (c.first_binding.ensures ∙ ap (first_binding var) c.as_slice.ensures) ∙ c.in-Some.is in
     sym (c.loop-cond.invariant.same ∙ ap (λ cs. given cs (drop c.loop-cond.at c.args.elements.now) var) next ∙ ap (λ es. given (c.cond-item.result ∷ conds) es var) next_element
-      ∙ given-here c.cond-item.result conds (element_in c.at.result) elements var c.in-Some.attr c.if-cond.false binds ∙ sym c.value_at.ensures)
+    ∙ given-here c.cond-item.result conds (element_in c.at.result) elements var c.in-Some.attr c.if-cond.false binds ∙ sym c.value_at.ensures)
 
 pub loop-cond-preserved : goal.loop-cond-preserved
 loop-cond-preserved c =
@@ -31,6 +31,6 @@ loop-cond-preserved c =
     let none : first_binding var c.cond-item.result.tests ≡ None = sym (c.first_binding.ensures ∙ ap (first_binding var) c.as_slice.ensures) ∙ c.in_default.is in
     record {
       same = c.loop-cond.invariant.same ∙ ap (λ cs. given cs (drop at c.args.elements.now) var) next ∙ ap (λ es. given (c.cond-item.result ∷ conds) es var) next_element
-        ∙ given-later c.cond-item.result conds element.0 elements var c.if-cond.false none;
+          ∙ given-later c.cond-item.result conds element.0 elements var c.if-cond.false none;
       within = omega (arith, within);
     }

@@ -1,5 +1,5 @@
 -- One condition element more, which binds the variable or doesn't.
-use Rattle.std.proofs.Common.{◌≡◌, ◌+◌, drop, sym, ◌∙◌, ap}
+use Rattle.std.proofs.Common.{◌+◌, drop, sym, ◌∙◌, ap}
 use Rattle.interference.specs.Pins.{is_bound}
 use Rattle.interference.proofs.FindingLemmas.{drop_item, is_bound-here, is_bound-later}
 use Rattle.interference.proofs.given.is_bound.Goals as goal

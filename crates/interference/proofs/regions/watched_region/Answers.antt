@@ -1,5 +1,5 @@
 -- The class has a split.
-use Rattle.std.proofs.Common.{◌≡◌, sym, ◌∙◌, ap}
+use Rattle.std.proofs.Common.{sym, ◌∙◌, ap}
 use Rattle.interference.specs.Regions.{pinned_value, regions_by, regions_of_value}
 use Rattle.interference.proofs.regions.watched_region.Goals as goal
 

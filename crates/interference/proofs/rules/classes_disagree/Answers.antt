@@ -1,5 +1,5 @@
 -- One class more, of which the modes go together or don't.
-use Rattle.std.proofs.Common.{◌≡◌, ℕ, Bool, true, false, sym, ◌∙◌, ap, arith}
+use Rattle.std.proofs.Common.{◌≡◌, ℕ, Bool, true, sym, ◌∙◌, ap, arith}
 use Rattle.std.specs.List.{range_with_len}
 use Rattle.rule_base.proofs.AmongLemmas.{list_any-among}
 use Rattle.interference.specs.Modes.{asks}

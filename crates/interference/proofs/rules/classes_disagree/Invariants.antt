@@ -1,8 +1,7 @@
 -- No class so far.
-use Rattle.std.proofs.Common.{◌≡◌, ◌==◌, ◌%◌, false, drop, flat_map, map, take}
-use Rattle.std.specs.List.{filter, list_any, range_with_len}
-use Rattle.interference.specs.MayInterfere.{class_at, class_demands, classes_of, disagree, grown_classes, takes_from}
-use Rattle.interference.specs.Given.{negated, positive}
+use Rattle.std.proofs.Common.{◌≡◌, false}
+use Rattle.std.specs.List.{list_any, range_with_len}
+use Rattle.interference.specs.MayInterfere.{class_demands, disagree}
 use Rattle.interference.specs.Modes.{asks}
 use Rattle.interference.proofs.rules.classes_disagree.Given as goal
 

@@ -1,9 +1,7 @@
 -- The actions that are left tell the same.
-use Rattle.std.proofs.Common.{◌≡◌, ◌==◌, ◌%◌, false, drop, flat_map, map, take}
-use Rattle.std.specs.List.{filter, list_any, range_with_len}
-use Rattle.interference.specs.MayInterfere.{class_at, class_demands, classes_of, disagree, grown_classes, takes_from}
-use Rattle.interference.specs.Given.{negated, positive}
-use Rattle.interference.specs.Modes.{asks}
+use Rattle.std.proofs.Common.{◌≡◌, ◌==◌, drop, flat_map}
+use Rattle.std.specs.List.{list_any}
+use Rattle.interference.specs.MayInterfere.{grown_classes}
 use Rattle.interference.proofs.rules.grows.Given as goal
 
 abbrev pub invariant-loop-action : goal.invariant-loop-action

@@ -1,9 +1,8 @@
 -- The condition elements that are left tell the same.
-use Rattle.std.proofs.Common.{◌≡◌, ◌==◌, ◌%◌, false, drop, flat_map, map, take}
-use Rattle.std.specs.List.{filter, list_any, range_with_len}
-use Rattle.interference.specs.MayInterfere.{class_at, class_demands, classes_of, disagree, grown_classes, takes_from}
-use Rattle.interference.specs.Given.{negated, positive}
-use Rattle.interference.specs.Modes.{asks}
+use Rattle.std.proofs.Common.{◌≡◌, ◌==◌, drop}
+use Rattle.std.specs.List.{list_any}
+use Rattle.interference.specs.MayInterfere.{classes_of}
+use Rattle.interference.specs.Given.{positive}
 use Rattle.interference.proofs.rules.matches.Given as goal
 
 abbrev pub invariant-loop-cond : goal.invariant-loop-cond

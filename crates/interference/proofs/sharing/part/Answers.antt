@@ -1,5 +1,5 @@
 -- One rule more, which is in the part or isn't.
-use Rattle.std.proofs.Common.{◌≡◌, ◌==◌, ◌%◌, ◌++◌, ◌∷◌, [], if◌then◌else◌, sym, ◌∙◌, ap}
+use Rattle.std.proofs.Common.{◌==◌, ◌%◌, ◌++◌, ◌∷◌, [], if◌then◌else◌, sym, ◌∙◌, ap}
 use Rattle.interference.proofs.RuleLemmas.{filter-range_next}
 use Rattle.interference.proofs.sharing.part.Goals as goal
 

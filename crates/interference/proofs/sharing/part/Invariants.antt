@@ -1,6 +1,6 @@
 -- The rules so far.
-use Rattle.std.proofs.Common.{◌≡◌, ◌==◌, ◌%◌, false, drop, flat_map, map, take}
-use Rattle.std.specs.List.{filter, list_any, range_with_len}
+use Rattle.std.proofs.Common.{◌≡◌, ◌==◌, ◌%◌}
+use Rattle.std.specs.List.{filter, range_with_len}
 use Rattle.interference.proofs.sharing.part.Given as goal
 
 abbrev pub invariant-loop-rule : goal.invariant-loop-rule

@@ -1,6 +1,6 @@
 -- The parts so far.
-use Rattle.std.proofs.Common.{◌≡◌, ◌==◌, ◌%◌, false, drop, flat_map, map, take}
-use Rattle.std.specs.List.{filter, list_any, range_with_len}
+use Rattle.std.proofs.Common.{◌≡◌, map}
+use Rattle.std.specs.List.{range_with_len}
 use Rattle.interference.specs.Parts.{part}
 use Rattle.interference.proofs.sharing.parts.Given as goal
 

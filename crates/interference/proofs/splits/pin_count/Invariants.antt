@@ -1,8 +1,6 @@
 -- The count so far, over rules of which each has few condition elements.
-use Rattle.std.proofs.Common.{◌≡◌, ℕ, ◌*◌, ◌≤◌, drop, length, take}
-use Rattle.std.specs.List.{AllByRecursion}
+use Rattle.std.proofs.Common.{◌≡◌, ◌*◌, ◌≤◌, take}
 use Rattle.interference.specs.Splits.{pin_count}
-use Rattle.interference.specs.Counting.{FewConds}
 use Rattle.interference.proofs.splits.pin_count.Given as goal
 
 abbrev pub invariant-loop-rule : goal.invariant-loop-rule
