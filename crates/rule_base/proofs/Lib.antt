@@ -16,6 +16,7 @@ pub mod MachineLemmas
 pub mod RunLemmas
 pub mod StillFiredLemmas
 pub mod TakenLemmas
+pub mod FitsLemmas
 pub mod BaseLemmas
 -- expressions
 pub mod Written

@@ -25,10 +25,12 @@ pub mod Run
 pub mod Ending
 -- the text that a run writes
 pub mod Layout
--- which programs are sound, and which are plain
+-- which programs are sound
 pub mod SoundConditions
 pub mod SoundActions
 pub mod Sound
+-- which candidates fit a program
+pub mod Fits
 -- what a run may begin from
 pub mod Base
 -- laws of the match, of runs and of bases

@@ -1,0 +1,3 @@
+-- Worked examples of the definitions, each a record of named rows.
+pub mod Values
+pub mod Footprints
