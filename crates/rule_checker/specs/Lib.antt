@@ -17,6 +17,12 @@ pub mod Expressions
 pub mod Terms
 pub mod RightSide
 pub mod Rules
+-- what is written, over names and values alone
+pub mod NamedBindings
+pub mod WrittenTests
+pub mod WrittenConditions
+pub mod WrittenRules
+pub mod WrittenLaws
 -- what the code keeps
 pub mod Kept
 -- worked rows
