@@ -24,3 +24,4 @@ pub mod WrittenTestLemmas
 pub mod WrittenConditionLemmas
 pub mod LaterClassLemmas
 pub mod WrittenRuleLemmas
+pub mod WrittenMatchLemmas

@@ -48,7 +48,7 @@ pub record HasRules (p : Program) (written : List WrittenRule) : Type 0 where
   pub rules : AllZip (IsCheckedTo p.classes) written p.rules
 
 -- lists side by side
-zip_map : {A B : Type 0} (P Q : A → B → Type 0) → ((a : A) (b : B) → P a b → Q a b) → (xs : List A) (ys : List B) → AllZip P xs ys → AllZip Q xs ys
+pub zip_map : {A B : Type 0} (P Q : A → B → Type 0) → ((a : A) (b : B) → P a b → Q a b) → (xs : List A) (ys : List B) → AllZip P xs ys → AllZip Q xs ys
 zip_map P Q f [] [] h = tt
 zip_map P Q f [] (y ∷ ys) h = h
 zip_map P Q f (x ∷ xs) [] h = h

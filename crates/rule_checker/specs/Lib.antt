@@ -22,6 +22,7 @@ pub mod NamedBindings
 pub mod WrittenTests
 pub mod WrittenConditions
 pub mod WrittenRules
+pub mod WrittenMatch
 pub mod WrittenLaws
 -- what the code keeps
 pub mod Kept

@@ -1,7 +1,7 @@
 //! Laws of the definitions. Each function here does nothing: its contract is the law.
 
 ghost use Rattle.rule_checker.specs.Laws.{CheckedAreSound, CheckedDeclareAll, ViolationsAreFirst, FrontDecides, ProgramKinds, MemoryFileKinds};
-ghost use Rattle.rule_checker.specs.WrittenLaws.{ConditionsAreWritten};
+ghost use Rattle.rule_checker.specs.WrittenLaws.{ConditionsAreWritten, MatchesAreWritten};
 ghost use Rattle.rule_checker.specs.Rows.Programs.{ArePrograms};
 ghost use Rattle.rule_checker.specs.Rows.Violations.{AreDeclarationViolations, AreConditionViolations, AreActionViolations};
 ghost use Rattle.rule_checker.specs.Rows.Openings.{AreOpenings};
@@ -53,4 +53,10 @@ pub fn violations_are_of_these_kinds()
 /// the same again.
 pub fn conditions_are_written()
     ensures { ConditionsAreWritten }
+{}
+
+/// Each rule of a checked program matches as it is written: with the same tags in the same memory, or it
+/// fails at the same condition element.
+pub fn matches_are_written()
+    ensures { MatchesAreWritten }
 {}
