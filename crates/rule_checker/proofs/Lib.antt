@@ -18,3 +18,10 @@ pub mod DeclaredLemmas
 pub mod ViolationLemmas
 pub mod OpeningLemmas
 pub mod KindLemmas
+-- what is checked means what is written
+pub mod NamedLemmas
+pub mod WrittenTestLemmas
+pub mod WrittenConditionLemmas
+pub mod LaterClassLemmas
+pub mod WrittenRuleLemmas
+pub mod WrittenMatchLemmas

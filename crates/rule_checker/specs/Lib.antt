@@ -17,6 +17,13 @@ pub mod Expressions
 pub mod Terms
 pub mod RightSide
 pub mod Rules
+-- what is written, over names and values alone
+pub mod NamedBindings
+pub mod WrittenTests
+pub mod WrittenConditions
+pub mod WrittenRules
+pub mod WrittenMatch
+pub mod WrittenLaws
 -- what the code keeps
 pub mod Kept
 -- worked rows

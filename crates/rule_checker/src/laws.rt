@@ -1,6 +1,7 @@
 //! Laws of the definitions. Each function here does nothing: its contract is the law.
 
 ghost use Rattle.rule_checker.specs.Laws.{CheckedAreSound, CheckedDeclareAll, ViolationsAreFirst, FrontDecides, ProgramKinds, MemoryFileKinds};
+ghost use Rattle.rule_checker.specs.WrittenLaws.{ConditionsAreWritten, MatchesAreWritten};
 ghost use Rattle.rule_checker.specs.Rows.Programs.{ArePrograms};
 ghost use Rattle.rule_checker.specs.Rows.Violations.{AreDeclarationViolations, AreConditionViolations, AreActionViolations};
 ghost use Rattle.rule_checker.specs.Rows.Openings.{AreOpenings};
@@ -45,4 +46,17 @@ pub fn violations_are_first()
 pub fn violations_are_of_these_kinds()
     ensures program { ProgramKinds }
     ensures memory_file { MemoryFileKinds }
+{}
+
+/// The rules of a checked program are those of its forms, in their order, and each condition element asks
+/// what is written: under bindings that say the same it accepts the same elements, and then the bindings say
+/// the same again.
+pub fn conditions_are_written()
+    ensures { ConditionsAreWritten }
+{}
+
+/// Each rule of a checked program matches as it is written: with the same tags in the same memory, or it
+/// fails at the same condition element.
+pub fn matches_are_written()
+    ensures { MatchesAreWritten }
 {}
