@@ -36,6 +36,7 @@ use Rattle.interference.proofs.BindingLemmas.{IsAccepted-accepts}
 use Rattle.interference.proofs.RegionLemmas.{Among-range, bucket_below}
 use Rattle.interference.proofs.WalkLemmas.{Walks, WalksBy}
 use Rattle.interference.proofs.MatchedLemmas.{IsMatch, IsMatch-matches, IsMatched, IsMatched-match_of, matches-listed}
+use Rattle.interference.proofs.DemandCodeLemmas.{length-sizes, within_by_get}
 use Rattle.interference.proofs.DemandLemmas.{Among-filter_map, demands_in, footprint-rule}
 
 -- of two modes in one, what doesn't go with it doesn't go with one of the two
@@ -326,3 +327,137 @@ takes_same one other memory tags more last last_too at tag walks walks_too desig
     list_any-among (λ k. list_any (λ n. n == k) (classes_of (positive other.conds))) class (filter_map (class_at one.conds) (flat_map designators one.actions))
       (Among-filter_map (class_at one.conds) at class (flat_map designators one.actions) designates mine.class)
       (list_any-among (λ n. n == class) class (classes_of (positive other.conds)) of_class ((Decides-eqb class class).1 refl))
+
+-- the classes of which a sound rule demands something are there
+conds_within : (sizes : List ℕ) (vars : ℕ) (known : List ℕ) (conds : List Cond) → SoundConds sizes vars known conds → AllByRecursion (λ (c : Cond). c.class < length sizes) conds
+conds_within sizes vars known [] sound = tt
+conds_within sizes vars known (c ∷ conds) sound = (sound.0, conds_within sizes vars (known_after_cond c.negated known c.tests) conds sound.2)
+
+of_option : (o : Option ℕ) (n : ℕ) → Among n (option_to_list o) → o ≡ Some n
+of_option None n among = absurd among
+of_option (Some m) n (inl same) = ap (λ k. Some k) (sym same)
+of_option (Some m) n (inr never) = absurd never
+
+grown_within : (sizes classes : List ℕ) (vars : ℕ) (known : List ℕ) (conds : List Cond) (a : Action) (class : ℕ) → AllByRecursion (λ (c : Cond). c.class < length sizes) conds → SoundAction sizes classes vars known a → Among class (grown_classes conds a) → class < length sizes
+grown_within sizes classes vars known conds (action.Make made size settings) class within sound (inl same) = subst (λ k. k < length sizes) (sym same) (within_by_get sizes made size sound.0)
+grown_within sizes classes vars known conds (action.Make made size settings) class within sound (inr never) = absurd never
+grown_within sizes classes vars known conds (action.Modify at settings) class within sound among =
+    let mapped = IsMapped-map (λ (c : Cond). c.class) class (positive conds) (Among-slice_get (classes_of (positive conds)) at class (of_option (class_at conds at) class among)) in
+    subst (λ k. k < length sizes) (sym mapped.is) (Each-among (λ (c : Cond). c.class < length sizes) (positive conds) mapped.from (Each-filter (λ (c : Cond). c.class < length sizes) (λ (c : Cond). not c.negated) conds within) mapped.there)
+grown_within sizes classes vars known conds (action.Remove ats) class within sound among = absurd among
+grown_within sizes classes vars known conds (action.Bind var term) class within sound among = absurd among
+grown_within sizes classes vars known conds (action.Write items) class within sound among = absurd among
+grown_within sizes classes vars known conds action.Halt class within sound among = absurd among
+
+actions_within : (sizes classes : List ℕ) (vars : ℕ) (known : List ℕ) (conds : List Cond) (actions : List Action) (class : ℕ) → AllByRecursion (λ (c : Cond). c.class < length sizes) conds → SoundActions sizes classes vars known actions → Among class (flat_map (grown_classes conds) actions) → class < length sizes
+actions_within sizes classes vars known conds [] class within sound among = absurd among
+actions_within sizes classes vars known conds (a ∷ actions) class within sound among =
+    by_side (Among-append class (grown_classes conds a) (flat_map (grown_classes conds) actions) among) (actions_within sizes classes vars (known_after_action known a) conds actions class within sound.1)
+  where
+    by_side : Among class (grown_classes conds a) ⊎ Among class (flat_map (grown_classes conds) actions) → (Among class (flat_map (grown_classes conds) actions) → class < length sizes) → class < length sizes
+    by_side (inl here) later = grown_within sizes classes vars known conds a class within sound.0 here
+    by_side (inr there) later = later there
+
+class_within : (sizes : List ℕ) (rule : Rule) (class : ℕ) (x : Mode) → IsSoundRule sizes rule → Among (class, x) (class_demands rule) → class < length sizes
+class_within sizes rule class x sound among =
+    by_side (Among-append (class, x) (in_mode Watch (classes_of (negated rule.conds))) (in_mode Grow (flat_map (grown_classes rule.conds) rule.actions)) among) (conds_within sizes rule.vars [] rule.conds sound.sound_conds)
+  where
+    by_side : Among (class, x) (in_mode Watch (classes_of (negated rule.conds))) ⊎ Among (class, x) (in_mode Grow (flat_map (grown_classes rule.conds) rule.actions)) → AllByRecursion (λ (c : Cond). c.class < length sizes) rule.conds → class < length sizes
+    by_side (inl here) within =
+      let mapped = IsMapped-map (λ (c : Cond). c.class) class (negated rule.conds) (of_mode Watch x class (classes_of (negated rule.conds)) here).1 in
+      subst (λ k. k < length sizes) (sym mapped.is) (Each-among (λ (c : Cond). c.class < length sizes) (negated rule.conds) mapped.from (Each-filter (λ (c : Cond). c.class < length sizes) (λ (c : Cond). c.negated) rule.conds within) mapped.there)
+    by_side (inr there) within =
+      actions_within sizes (positive_classes rule.conds) rule.vars (known_after_conds [] rule.conds) rule.conds rule.actions class within sound.sound_actions (of_mode Grow x class (flat_map (grown_classes rule.conds) rule.actions) there).1
+
+-- two demands of one class that don't go together
+modes_disagree : (one other : Rule) (class : ℕ) (x y : Mode) → Among (class, x) (class_demands one) → Among (class, y) (class_demands other) → goes x y ≡ false → disagree (asks (class_demands one) class) (asks (class_demands other) class) ≡ true
+modes_disagree one other class x y asked asked_too apart =
+    let wide = IsCovered-among (class_demands one) class x asked in
+    let wide_too = IsCovered-among (class_demands other) class y asked_too in
+    let apart_too : goes wide_too.asked wide.asked ≡ false = wide_too.covers wide.asked (goes-symmetric y wide.asked ∙ wide.covers y apart) in
+    ap (λ o. disagree o (asks (class_demands other) class)) wide.is ∙ ap (disagree (Some wide.asked)) wide_too.is ∙ ap not (goes-symmetric wide.asked wide_too.asked ∙ apart_too)
+
+classes_clash : (count : ℕ) (one other : Rule) (class : ℕ) (x y : Mode) → class < count → Among (class, x) (class_demands one) → Among (class, y) (class_demands other) → goes x y ≡ false → classes_disagree count one other ≡ true
+classes_clash count one other class x y within asked asked_too apart =
+    list_any-among (λ k. disagree (asks (class_demands one) k) (asks (class_demands other) k)) class (range_with_len 0 count) (Among-range 0 count class (omega arith) (omega (arith, within))) (modes_disagree one other class x y asked asked_too apart)
+
+-- two rules that may not interfere
+three_false : (a b c : Bool) → (a || b || c) ≡ false → (a ≡ false) × ((b ≡ false) × (c ≡ false))
+three_false false false false is = (refl, (refl, refl))
+three_false false false true is = absurd (let wrong : ⊥ = cc in wrong)
+three_false false true c is = absurd (let wrong : ⊥ = cc in wrong)
+three_false true b c is = absurd (let wrong : ⊥ = cc in wrong)
+
+record Apart (count : ℕ) (one other : Rule) : Type 0 where
+  classes : classes_disagree count one other ≡ false
+  one_takes : takes_from one other ≡ false
+  other_takes : takes_from other one ≡ false
+
+Apart-rules : (program : Program) (one other : Rule) (a b : ℕ) → slice_get program.rules a ≡ Some one → slice_get program.rules b ≡ Some other → may_interfere program a b ≡ false → Apart (length program.classes) one other
+Apart-rules program one other a b at at_other never =
+    let count = length program.classes in
+    let is : rules_interfere count one other ≡ false =
+      sym (ap (λ o. option_map_or (λ (r : Rule). option_map_or (λ (q : Rule). rules_interfere count r q) (slice_get program.rules b) false) o false) at
+        ∙ ap (λ o. option_map_or (λ (q : Rule). rules_interfere count one q) o false) at_other) ∙ never in
+    let three = three_false (classes_disagree count one other) (takes_from one other) (takes_from other one) is in
+    record { classes = three.0; one_takes = three.1.0; other_takes = three.1.1 }
+
+stripe_below : (tag : ℕ) → stripe tag < 1024
+stripe_below tag = mod_below tag 1024 (omega arith)
+
+share : (lock : ℕ) (one other : List ℕ) (tag beside : ℕ) → Among tag one → Among beside other → lock ≡ stripe tag → lock ≡ stripe beside → (tag ≡ beside → ⊥) → ShareStripe lock one other
+share lock one other tag beside of_one of_other is is_too differ = record {
+  tag = tag;
+  beside = beside;
+  of_one = list_any-among (λ t. t == tag) tag one of_one ((Decides-eqb tag tag).1 refl);
+  of_other = list_any-among (λ t. t == beside) beside other of_other ((Decides-eqb beside beside).1 refl);
+  differ = differ;
+  here = sym is;
+  here_too = sym is_too;
+}
+
+-- two stripes
+stripes : (one other : Rule) (memory : Memory) (tags more : List ℕ) (last last_too : Bindings) (count lock : ℕ) (x y : Mode) → Walks memory last one.conds tags (no_bindings one.vars) → Walks memory last_too other.conds more (no_bindings other.vars) → Apart count one other → goes x y ≡ false → OfStripe one tags lock x → OfStripe other more lock y → ShareStripe lock tags more
+stripes one other memory tags more last last_too count lock x y walks walks_too apart apart_modes mine theirs = share lock tags more mine.tag theirs.tag mine.there theirs.there mine.is theirs.is (differ mine.how theirs.how)
+  where
+    differ : (x ≡ Watch) ⊎ ((at : ℕ) × (Among at (flat_map designators one.actions) × (slice_get tags at ≡ Some mine.tag))) → (y ≡ Watch) ⊎ ((at : ℕ) × (Among at (flat_map designators other.actions) × (slice_get more at ≡ Some theirs.tag))) → mine.tag ≡ theirs.tag → ⊥
+    differ (inr takes) how same = true≢false (sym (takes_same one other memory tags more last last_too takes.0 mine.tag walks walks_too takes.1.0 takes.1.1 (subst (λ t. Among t more) (sym same) theirs.there)) ∙ apart.one_takes)
+    differ (inl watched) (inr takes) same = true≢false (sym (takes_same other one memory more tags last_too last takes.0 theirs.tag walks_too walks takes.1.0 takes.1.1 (subst (λ t. Among t tags) same mine.there)) ∙ apart.other_takes)
+    differ (inl watched) (inl watched_too) same = true≢false (sym (ap (λ m. goes m y) watched ∙ ap (goes Watch) watched_too) ∙ apart_modes)
+
+-- two regions
+regions : (count : ℕ) (one other : Rule) (lock : ℕ) (x y : Mode) → ((class : ℕ) → Among (class, x) (class_demands one) → class < count) → Apart count one other → goes x y ≡ false → OfRegion one lock x → OfRegion other lock y → ⊥
+regions count one other lock x y within apart apart_modes mine theirs =
+    let same : theirs.class ≡ mine.class = omega (arith, mine.is, theirs.is, mine.few, theirs.few) in
+    true≢false (sym (classes_clash count one other mine.class x y (within mine.class mine.asked) mine.asked (subst (λ k. Among (k, y) (class_demands other)) same theirs.asked) apart_modes) ∙ apart.classes)
+
+-- a stripe is no region
+stripe_no_region : (one other : Rule) (tags : List ℕ) (lock : ℕ) (x y : Mode) → OfStripe one tags lock x → OfRegion other lock y → ⊥
+stripe_no_region one other tags lock x y mine theirs = omega (arith, mine.is, stripe_below mine.tag, theirs.is)
+
+by_origins : (one other : Rule) (memory : Memory) (tags more : List ℕ) (last last_too : Bindings) (count lock : ℕ) (x y : Mode) → Walks memory last one.conds tags (no_bindings one.vars) → Walks memory last_too other.conds more (no_bindings other.vars) → ((class : ℕ) → Among (class, x) (class_demands one) → class < count) → Apart count one other → goes x y ≡ false → OfStripe one tags lock x ⊎ OfRegion one lock x → OfStripe other more lock y ⊎ OfRegion other lock y → ShareStripe lock tags more
+by_origins one other memory tags more last last_too count lock x y walks walks_too within apart apart_modes (inl mine) (inl theirs) = stripes one other memory tags more last last_too count lock x y walks walks_too apart apart_modes mine theirs
+by_origins one other memory tags more last last_too count lock x y walks walks_too within apart apart_modes (inl mine) (inr theirs) = absurd (stripe_no_region one other tags lock x y mine theirs)
+by_origins one other memory tags more last last_too count lock x y walks walks_too within apart apart_modes (inr mine) (inl theirs) = absurd (stripe_no_region other one more lock y x theirs mine)
+by_origins one other memory tags more last last_too count lock x y walks walks_too within apart apart_modes (inr mine) (inr theirs) = absurd (regions count one other lock x y within apart apart_modes mine theirs)
+
+-- choices of rules that may not interfere clash at most because different tags share a stripe
+pub ShareStripe-clash : (program : Program) (memory : Memory) (c d : Choice) → IsSound program → Rises (tags_of memory) → is_listed program memory c ≡ true → is_listed program memory d ≡ true → may_interfere program c.rule d.rule ≡ false → (clash : ClashIn program memory c d) → ShareStripe clash.lock c.tags d.tags
+ShareStripe-clash program memory c d sound rises listed listed_too never clash =
+    let match = IsMatch-matches program memory c (matches-listed program memory c rises listed) in
+    let match_too = IsMatch-matches program memory d (matches-listed program memory d rises listed_too) in
+    let sizes = sizes_of program.classes in
+    let of_rule = Each-slice_get (IsSoundRule sizes) program.rules c.rule match.rule sound.sound_rules match.at in
+    let of_other = Each-slice_get (IsSoundRule sizes) program.rules d.rule match_too.rule sound.sound_rules match_too.at in
+    let matched = IsMatched-match_of sizes match.rule c.tags memory match.last of_rule match.is in
+    let matched_too = IsMatched-match_of sizes match_too.rule d.tags memory match_too.last of_other match_too.is in
+    let mine = demands_in program memory match.rule c in
+    let theirs = demands_in program memory match_too.rule d in
+    let asked : asks mine clash.lock ≡ Some clash.mode = sym (ap (λ f. asks f clash.lock) (footprint-rule program memory match.rule c match.at) ∙ asks-gathered mine clash.lock) ∙ clash.asked in
+    let asked_too : asks theirs clash.lock ≡ Some clash.beside = sym (ap (λ f. asks f clash.lock) (footprint-rule program memory match_too.rule d match_too.at) ∙ asks-gathered theirs clash.lock) ∙ clash.asked_too in
+    let first = from_asks mine clash.lock clash.mode clash.beside asked clash.apart in
+    let second = from_asks theirs clash.lock clash.beside first.mode asked_too (goes-symmetric clash.beside first.mode ∙ first.apart) in
+    by_origins match.rule match_too.rule memory c.tags d.tags match.last match_too.last (length program.classes) clash.lock first.mode second.mode matched.walks matched_too.walks
+      (λ class of_class. omega (arith, class_within sizes match.rule class first.mode of_rule of_class, length-sizes program.classes))
+      (Apart-rules program match.rule match_too.rule c.rule d.rule match.at match_too.at never) (goes-symmetric first.mode second.mode ∙ second.apart)
+      (origin program memory match.rule c clash.lock first.mode first.there) (origin program memory match_too.rule d clash.lock second.mode second.there)
