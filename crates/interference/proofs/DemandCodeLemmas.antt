@@ -6,6 +6,7 @@ use Rattle.rule_base.specs.declared.action.Action.{Action}
 use Rattle.rule_base.specs.declared.action.Action.TheVariants as action
 use Rattle.rule_base.specs.declared.program.Class.{Class}
 use Rattle.rule_base.specs.declared.program.Program.{Program}
+use Rattle.rule_base.specs.Memory.{Rises, RisesFrom}
 use Rattle.rule_base.specs.Sound.{IsSound, IsSoundRule, SoundAction, SoundActions, SoundConds, known_after_action, known_after_cond, known_after_conds, positive_classes, sizes_of}
 use Rattle.rule_base.proofs.EachLemmas.{Each-filter, Each-slice_get}
 use Rattle.std.specs.List.{AllByRecursion, cons_option, insert, range_with_len}
@@ -17,7 +18,7 @@ use Rattle.rule_base.proofs.StepByStepLemmas.{drop_next}
 use Rattle.std.proofs.lemmas.Bool.Decides.{Decides-eqb}
 use Rattle.rule_base.specs.declared.lock.Mode.{Mode}
 use Rattle.interference.specs.Modes.{both}
-use Rattle.interference.specs.Footprint.{in_mode, with_demand}
+use Rattle.interference.specs.Footprint.{gathered, in_mode, with_demand}
 use Rattle.interference.specs.Given.{negated, positive, taken, value_at}
 use Rattle.interference.specs.Locks.{every_region, stripe}
 use Rattle.interference.specs.Regions.{grown_regions, known_after, region_locks, watched_regions}
@@ -173,7 +174,7 @@ few_conds : (sizes : List ℕ) (vars : ℕ) (known : List ℕ) (conds : List Con
 few_conds sizes vars known [] few sound = tt
 few_conds sizes vars known (c ∷ conds) few sound = (omega (arith, few, sound.0), few_conds sizes vars (known_after_cond c.negated known c.tests) conds few sound.2)
 
-within_by_get : (sizes : List ℕ) (i n : ℕ) → slice_get sizes i ≡ Some n → i < length sizes
+pub within_by_get : (sizes : List ℕ) (i n : ℕ) → slice_get sizes i ≡ Some n → i < length sizes
 within_by_get [] i n is = absurd (let wrong : ⊥ = cc in wrong)
 within_by_get (s ∷ sizes) zero n is = omega arith
 within_by_get (s ∷ sizes) (suc i) n is = omega (arith, within_by_get sizes i n is)
@@ -190,7 +191,7 @@ few_actions : (sizes classes : List ℕ) (vars : ℕ) (known : List ℕ) (action
 few_actions sizes classes vars known [] few sound = tt
 few_actions sizes classes vars known (a ∷ actions) few sound = (few_action sizes classes vars known a few sound.0, few_actions sizes classes vars (known_after_action known a) actions few sound.1)
 
-length-sizes : (classes : List Class) → length (sizes_of classes) ≡ length classes
+pub length-sizes : (classes : List Class) → length (sizes_of classes) ≡ length classes
 length-sizes [] = refl
 length-sizes (c ∷ classes) = omega (arith, length-sizes classes)
 
@@ -202,3 +203,43 @@ HasFewClasses-sound program at rule sound is =
       conds = few_conds (sizes_of program.classes) rule.vars [] rule.conds few of_rule.sound_conds;
       actions = few_actions (sizes_of program.classes) (positive_classes rule.conds) rule.vars (known_after_conds [] rule.conds) rule.actions few of_rule.sound_actions;
     }
+
+-- the locks of a footprint
+abbrev pub locks_of : List (ℕ × Mode) → List ℕ
+locks_of demands = map (λ (d : ℕ × Mode). d.0) demands
+
+lt_from : (n m : ℕ) → nat_lt n m ≡ true → n < m
+lt_from n m is = search (rules, tests, is)
+
+above_from : (n m : ℕ) → nat_lt n m ≡ false → (n == m) ≡ false → m < n
+above_from n m not_less not_equal = search (rules, tests, not_less, not_equal)
+
+-- one more demand leaves locks that rise
+rises_first : (low : ℕ) (first demand : ℕ × Mode) (rest : List (ℕ × Mode)) (less same : Bool) → nat_lt demand.0 first.0 ≡ less → (demand.0 == first.0) ≡ same → low < demand.0 → low < first.0 → RisesFrom first.0 (locks_of rest) → (first.0 < demand.0 → RisesFrom first.0 (locks_of (with_demand rest demand)))
+    → RisesFrom low (locks_of (if less then demand ∷ first ∷ rest else if same then (first.0, both first.1 demand.1) ∷ rest else first ∷ with_demand rest demand))
+rises_first low first demand rest true same is is_same of_demand of_first rises later = (of_demand, (lt_from demand.0 first.0 is, rises))
+rises_first low first demand rest false true is is_same of_demand of_first rises later = (of_first, rises)
+rises_first low first demand rest false false is is_same of_demand of_first rises later = (of_first, later (above_from demand.0 first.0 is is_same))
+
+RisesFrom-with_demand : (low : ℕ) (list : List (ℕ × Mode)) (demand : ℕ × Mode) → low < demand.0 → RisesFrom low (locks_of list) → RisesFrom low (locks_of (with_demand list demand))
+RisesFrom-with_demand low [] demand above rises = (above, tt)
+RisesFrom-with_demand low (first ∷ rest) demand above rises =
+    rises_first low first demand rest (nat_lt demand.0 first.0) (demand.0 == first.0) refl refl above rises.0 rises.1 (λ higher. RisesFrom-with_demand first.0 rest demand higher rises.1)
+
+rises_at_first : (first demand : ℕ × Mode) (rest : List (ℕ × Mode)) (less same : Bool) → nat_lt demand.0 first.0 ≡ less → (demand.0 == first.0) ≡ same → RisesFrom first.0 (locks_of rest)
+    → Rises (locks_of (if less then demand ∷ first ∷ rest else if same then (first.0, both first.1 demand.1) ∷ rest else first ∷ with_demand rest demand))
+rises_at_first first demand rest true same is is_same rises = (lt_from demand.0 first.0 is, rises)
+rises_at_first first demand rest false true is is_same rises = rises
+rises_at_first first demand rest false false is is_same rises = RisesFrom-with_demand first.0 rest demand (above_from demand.0 first.0 is is_same) rises
+
+Rises-with_demand : (list : List (ℕ × Mode)) (demand : ℕ × Mode) → Rises (locks_of list) → Rises (locks_of (with_demand list demand))
+Rises-with_demand [] demand rises = tt
+Rises-with_demand (first ∷ rest) demand rises = rises_at_first first demand rest (nat_lt demand.0 first.0) (demand.0 == first.0) refl refl rises
+
+Rises-all : (list demands : List (ℕ × Mode)) → Rises (locks_of list) → Rises (locks_of (with_demands list demands))
+Rises-all list [] rises = rises
+Rises-all list (demand ∷ demands) rises = Rises-all (with_demand list demand) demands (Rises-with_demand list demand rises)
+
+-- so those of a footprint rise
+pub Rises-gathered : (demands : List (ℕ × Mode)) → Rises (locks_of (gathered demands))
+Rises-gathered demands = Rises-all [] demands tt

@@ -18,3 +18,4 @@ pub mod FindingLemmas
 pub mod SplitLemmas
 pub mod DemandCodeLemmas
 pub mod RuleLemmas
+pub mod ClashLemmas

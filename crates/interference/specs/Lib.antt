@@ -12,6 +12,8 @@ pub mod PhantomLaw
 -- which rules may interfere, and how rules are shared
 pub mod MayInterfere
 pub mod Parts
+-- laws of footprints
+pub mod FootprintLaws
 -- what the crate's functions promise each other
 pub mod Finding
 pub mod Counting

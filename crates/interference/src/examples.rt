@@ -3,6 +3,7 @@
 
 ghost use Rattle.interference.specs.Examples.Values.{AreBuckets, ArePins, AreSplits};
 ghost use Rattle.interference.specs.Examples.Footprints.{AreGrown, AreWatched, AreFootprints, AreClashes};
+ghost use Rattle.interference.specs.Examples.Rules.{AreInterferences, AreParts};
 
 /// Which bucket a value falls into.
 pub fn buckets()
@@ -25,4 +26,10 @@ pub fn regions()
 pub fn footprints()
     ensures footprints { AreFootprints }
     ensures clashes { AreClashes }
+{}
+
+/// Which rules may interfere, and parts of rules.
+pub fn rules()
+    ensures interferences { AreInterferences }
+    ensures parts { AreParts }
 {}

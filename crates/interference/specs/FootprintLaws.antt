@@ -1,0 +1,42 @@
+-- Laws of footprints: what they ask and in which order, and what it means that two rules may not interfere.
+use Rattle.std.specs.Prelude.{◌≡◌, ℕ, List, Bool, true, false, map, ◌==◌}
+use Rattle.std.specs.List.{list_any}
+use Rattle.rule_base.specs.declared.lock.Mode.{Mode}
+use Rattle.rule_base.specs.declared.instantiation.Choice.{Choice}
+use Rattle.rule_base.specs.declared.program.Program.{Program}
+use Rattle.rule_base.specs.Memory.{Memory, Rises, tags_of}
+use Rattle.rule_base.specs.Sound.{IsSound}
+use Rattle.rule_base.specs.Step.{is_listed}
+use Rattle.interference.specs.Modes.{asks}
+use Rattle.interference.specs.Locks.{stripe}
+use Rattle.interference.specs.Footprint.{Clash, footprint, gathered}
+use Rattle.interference.specs.PhantomLaw.{ClashIn, with_elements}
+use Rattle.interference.specs.MayInterfere.{may_interfere}
+
+-- gathered demands ask the same of each lock as before
+abbrev pub GatheredAskTheSame : Type 0
+GatheredAskTheSame = (demands : List (ℕ × Mode)) (lock : ℕ) → asks (gathered demands) lock ≡ asks demands lock
+
+-- and their locks rise, so that each stands there once
+abbrev pub GatheredRise : Type 0
+GatheredRise = (demands : List (ℕ × Mode)) → Rises (map (λ (d : ℕ × Mode). d.0) (gathered demands))
+
+-- whether a tag is among these
+abbrev pub is_tag_of : List ℕ → ℕ → Bool
+is_tag_of tags tag = list_any (λ t. t == tag) tags
+
+-- two different tags, one of each list, share the stripe
+pub record ShareStripe (lock : ℕ) (one other : List ℕ) : Type 0 where
+  pub tag : ℕ
+  pub beside : ℕ
+  pub of_one : is_tag_of one tag ≡ true
+  pub of_other : is_tag_of other beside ≡ true
+  pub differ : tag ≡ beside → ⊥
+  pub here : stripe tag ≡ lock
+  pub here_too : stripe beside ≡ lock
+
+-- choices of rules that may not interfere clash at most because different tags share a stripe
+abbrev pub OnlyStripesClash : Type 0
+OnlyStripesClash = (program : Program) (memory : Memory) (c d : Choice) → IsSound program → Rises (tags_of memory)
+    → is_listed program memory c ≡ true → is_listed program memory d ≡ true → may_interfere program c.rule d.rule ≡ false
+    → (clash : ClashIn program memory c d) → ShareStripe clash.lock c.tags d.tags
