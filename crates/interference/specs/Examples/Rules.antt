@@ -26,12 +26,12 @@ abbrev pub six : Program
 six = record {
   classes = once.classes;
   rules = once_rule
-    ∷ small_rule (present 0 (Bind 0 0 ∷ []) ∷ []) (action.Make 1 1 ((0, Var 0) ∷ []) ∷ [])
-    ∷ small_rule (present 0 [] ∷ absent 1 [] ∷ []) []
-    ∷ small_rule (present 0 [] ∷ []) (action.Remove (0 ∷ []) ∷ [])
-    ∷ small_rule (present 1 [] ∷ []) (action.Remove (0 ∷ []) ∷ [])
-    ∷ small_rule (present 1 [] ∷ []) (action.Modify 0 [] ∷ [])
-    ∷ [];
+      ∷ small_rule (present 0 (Bind 0 0 ∷ []) ∷ []) (action.Make 1 1 ((0, Var 0) ∷ []) ∷ [])
+      ∷ small_rule (present 0 [] ∷ absent 1 [] ∷ []) []
+      ∷ small_rule (present 0 [] ∷ []) (action.Remove (0 ∷ []) ∷ [])
+      ∷ small_rule (present 1 [] ∷ []) (action.Remove (0 ∷ []) ∷ [])
+      ∷ small_rule (present 1 [] ∷ []) (action.Modify 0 [] ∷ [])
+      ∷ [];
   makes = [];
 }
 
