@@ -6,5 +6,6 @@ pub mod NumberedLemmas
 pub mod BesideLemmas
 pub mod EntryLemmas
 pub mod RoomLemmas
+pub mod CommitLemmas
 -- the text of a journal
 pub mod JournalTextLemmas

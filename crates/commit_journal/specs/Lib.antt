@@ -2,6 +2,8 @@
 pub mod Entries
 pub mod EntryViews
 pub mod Room
+-- laws of the entries of firings
+pub mod Commits
 -- its text
 pub mod JournalText
 -- how its arrays keep it

@@ -5,6 +5,7 @@
 mod entry_view;
 mod firing;
 mod journal;
+pub mod laws;
 mod lists;
 mod newborns;
 mod page;
