@@ -1,5 +1,5 @@
 -- Which demands a clash comes from, and why those of rules that may not interfere are of two tags on one stripe.
-use Rattle.std.proofs.Common.{◌≡◌, ℕ, zero, suc, ◌+◌, ◌*◌, ◌%◌, ◌<◌, ◌≤◌, List, [], ◌∷◌, ◌++◌, Bool, true, false, cond, not, ◌&&◌, ◌||◌, Option, Some, None, ◌⊎◌, inl, inr, filter_map, flat_map, length, map, option_to_list, slice_get, zip, ◌==◌, refl, sym, ◌∙◌, ap, subst, arith, true≢false}
+use Rattle.std.proofs.Common.{◌≡◌, ℕ, zero, suc, ◌+◌, ◌<◌, List, [], ◌∷◌, ◌++◌, Bool, true, false, cond, not, ◌||◌, Option, Some, None, ◌⊎◌, inl, inr, filter_map, flat_map, length, map, option_to_list, slice_get, zip, ◌==◌, refl, sym, ◌∙◌, ap, subst, arith, true≢false}
 use Rattle.std.specs.List.{AllByRecursion, cons_option, list_any, range_with_len}
 use Rattle.std.specs.Option.{option_map_or}
 use Rattle.std.proofs.lemmas.Bool.Decides.{Decides-eqb}
@@ -22,20 +22,20 @@ use Rattle.rule_base.specs.Step.{is_listed}
 use Rattle.rule_base.proofs.AmongLemmas.{Among, Among-append_left, Among-append_right, Among-flat_map, Among-map, list_any-among}
 use Rattle.rule_base.proofs.EachLemmas.{Each-filter, Each-slice_get}
 use Rattle.interference.specs.Modes.{asks, both, goes, joined}
-use Rattle.interference.specs.Locks.{bucket, every_region, region, stripe}
+use Rattle.interference.specs.Locks.{region, stripe}
 use Rattle.interference.specs.Given.{negated, positive, taken, value_at}
 use Rattle.interference.specs.Regions.{grown_regions, known_after, region_locks, regions_by, regions_of_value, watched_regions}
 use Rattle.interference.specs.Splits.{split_of, splits_of}
-use Rattle.interference.specs.Footprint.{Clash, designated_demands, designators, footprint, gathered, in_mode, made_demands, matched_demands, negated_demands}
-use Rattle.interference.specs.PhantomLaw.{ClashIn, with_elements}
+use Rattle.interference.specs.Footprint.{designated_demands, designators, in_mode, made_demands, matched_demands, negated_demands}
+use Rattle.interference.specs.PhantomLaw.{ClashIn}
 use Rattle.interference.specs.MayInterfere.{class_at, class_demands, classes_disagree, classes_of, disagree, grown_classes, may_interfere, rules_interfere, takes_from}
 use Rattle.interference.specs.FootprintLaws.{ShareStripe}
-use Rattle.interference.proofs.ListLemmas.{Among-append, Among-list_any, Each-among, IsAmongOne-flat_map}
+use Rattle.interference.proofs.ListLemmas.{Among-append, Each-among, IsAmongOne-flat_map}
 use Rattle.interference.proofs.ModeLemmas.{IsCovered-among, asks-gathered, goes-symmetric}
 use Rattle.interference.proofs.BindingLemmas.{IsAccepted-accepts}
 use Rattle.interference.proofs.RegionLemmas.{Among-range, bucket_below}
 use Rattle.interference.proofs.WalkLemmas.{Walks, WalksBy}
-use Rattle.interference.proofs.MatchedLemmas.{IsMatch, IsMatch-matches, IsMatched, IsMatched-match_of, matches-listed}
+use Rattle.interference.proofs.MatchedLemmas.{IsMatch-matches, IsMatched-match_of, matches-listed}
 use Rattle.interference.proofs.DemandCodeLemmas.{length-sizes, within_by_get}
 use Rattle.interference.proofs.DemandLemmas.{Among-filter_map, demands_in, footprint-rule}
 
@@ -201,7 +201,7 @@ of_pair : (splits : List (Option ℕ)) (rule : Rule) (elements : List Element) (
 of_pair splits rule elements at settings lock None is among = absurd among
 of_pair splits rule elements at settings lock (Some pair) is among =
     of_locks splits pair.0.class (λ attr. known_after rule elements attr (value_at pair attr) settings) rule (action.Modify at settings) lock
-      (among_option (class_at rule.conds at) pair.0.class (slice_get-map (λ (c : Cond). c.class) (positive rule.conds) at pair.0 (zip-first (positive rule.conds) elements at pair is))) among
+    (among_option (class_at rule.conds at) pair.0.class (slice_get-map (λ (c : Cond). c.class) (positive rule.conds) at pair.0 (zip-first (positive rule.conds) elements at pair is))) among
 
 IsGrownOf-regions : (splits : List (Option ℕ)) (rule : Rule) (elements : List Element) (a : Action) (lock : ℕ) → Among lock (grown_regions splits rule elements a) → IsGrownOf rule a lock
 IsGrownOf-regions splits rule elements (action.Make class size settings) lock among = of_locks splits class _ rule (action.Make class size settings) lock (inl refl) among
@@ -238,7 +238,7 @@ of_negated splits rule elements lock x among =
       few = region_below (split_of splits source.source.class) _ mapped.from mapped.there;
       is = mapped.is;
       asked = subst (λ m. Among (source.source.class, m) (class_demands rule)) (sym mode.0)
-        (Among-append_left (source.source.class, Watch) (in_mode Watch (classes_of (negated rule.conds))) (in_mode Grow (flat_map (grown_classes rule.conds) rule.actions)) here);
+          (Among-append_left (source.source.class, Watch) (in_mode Watch (classes_of (negated rule.conds))) (in_mode Grow (flat_map (grown_classes rule.conds) rule.actions)) here);
     }
 
 of_made : (splits : List (Option ℕ)) (rule : Rule) (elements : List Element) (lock : ℕ) (x : Mode) → Among (lock, x) (made_demands splits rule elements) → OfRegion rule lock x
@@ -254,7 +254,7 @@ of_made splits rule elements lock x among =
       few = grown.few;
       is = grown.is;
       asked = subst (λ m. Among (grown.class, m) (class_demands rule)) (sym mode.0)
-        (Among-append_right (grown.class, Grow) (in_mode Watch (classes_of (negated rule.conds))) (in_mode Grow classes) here);
+          (Among-append_right (grown.class, Grow) (in_mode Watch (classes_of (negated rule.conds))) (in_mode Grow classes) here);
     }
 
 origin : (program : Program) (memory : Memory) (rule : Rule) (c : Choice) (lock : ℕ) (x : Mode) → Among (lock, x) (demands_in program memory rule c) → OfStripe rule c.tags lock x ⊎ OfRegion rule lock x
@@ -264,9 +264,11 @@ origin program memory rule c lock x among =
     by_two : Among (lock, x) (matched_demands c.tags) ⊎ Among (lock, x) (designated_demands rule c.tags) → OfStripe rule c.tags lock x ⊎ OfRegion rule lock x
     by_two (inl here) = inl (of_matched rule c.tags lock x here)
     by_two (inr there) = inl (of_designated rule c.tags lock x there)
+
     by_three : Among (lock, x) (matched_demands c.tags ++ designated_demands rule c.tags) ⊎ Among (lock, x) (negated_demands (splits_of program) rule (elements_at memory c.tags)) → OfStripe rule c.tags lock x ⊎ OfRegion rule lock x
     by_three (inl here) = by_two (Among-append (lock, x) (matched_demands c.tags) (designated_demands rule c.tags) here)
     by_three (inr there) = inr (of_negated (splits_of program) rule (elements_at memory c.tags) lock x there)
+
     by_four : Among (lock, x) (matched_demands c.tags ++ designated_demands rule c.tags ++ negated_demands (splits_of program) rule (elements_at memory c.tags)) ⊎ Among (lock, x) (made_demands (splits_of program) rule (elements_at memory c.tags)) → OfStripe rule c.tags lock x ⊎ OfRegion rule lock x
     by_four (inl here) = by_three (Among-append (lock, x) (matched_demands c.tags ++ designated_demands rule c.tags) (negated_demands (splits_of program) rule (elements_at memory c.tags)) here)
     by_four (inr there) = inr (of_made (splits_of program) rule (elements_at memory c.tags) lock x there)
@@ -325,8 +327,8 @@ takes_same one other memory tags more last last_too at tag walks walks_too desig
     let class = mine.element.class in
     let of_class : Among class (classes_of (positive other.conds)) = Among-slice_get (classes_of (positive other.conds)) place.0 class (theirs.class ∙ ap (λ (e : Element). Some e.class) element_is) in
     list_any-among (λ k. list_any (λ n. n == k) (classes_of (positive other.conds))) class (filter_map (class_at one.conds) (flat_map designators one.actions))
-      (Among-filter_map (class_at one.conds) at class (flat_map designators one.actions) designates mine.class)
-      (list_any-among (λ n. n == class) class (classes_of (positive other.conds)) of_class ((Decides-eqb class class).1 refl))
+    (Among-filter_map (class_at one.conds) at class (flat_map designators one.actions) designates mine.class)
+    (list_any-among (λ n. n == class) class (classes_of (positive other.conds)) of_class ((Decides-eqb class class).1 refl))
 
 -- the classes of which a sound rule demands something are there
 conds_within : (sizes : List ℕ) (vars : ℕ) (known : List ℕ) (conds : List Cond) → SoundConds sizes vars known conds → AllByRecursion (λ (c : Cond). c.class < length sizes) conds
@@ -364,10 +366,10 @@ class_within sizes rule class x sound among =
   where
     by_side : Among (class, x) (in_mode Watch (classes_of (negated rule.conds))) ⊎ Among (class, x) (in_mode Grow (flat_map (grown_classes rule.conds) rule.actions)) → AllByRecursion (λ (c : Cond). c.class < length sizes) rule.conds → class < length sizes
     by_side (inl here) within =
-      let mapped = IsMapped-map (λ (c : Cond). c.class) class (negated rule.conds) (of_mode Watch x class (classes_of (negated rule.conds)) here).1 in
-      subst (λ k. k < length sizes) (sym mapped.is) (Each-among (λ (c : Cond). c.class < length sizes) (negated rule.conds) mapped.from (Each-filter (λ (c : Cond). c.class < length sizes) (λ (c : Cond). c.negated) rule.conds within) mapped.there)
+        let mapped = IsMapped-map (λ (c : Cond). c.class) class (negated rule.conds) (of_mode Watch x class (classes_of (negated rule.conds)) here).1 in
+        subst (λ k. k < length sizes) (sym mapped.is) (Each-among (λ (c : Cond). c.class < length sizes) (negated rule.conds) mapped.from (Each-filter (λ (c : Cond). c.class < length sizes) (λ (c : Cond). c.negated) rule.conds within) mapped.there)
     by_side (inr there) within =
-      actions_within sizes (positive_classes rule.conds) rule.vars (known_after_conds [] rule.conds) rule.conds rule.actions class within sound.sound_actions (of_mode Grow x class (flat_map (grown_classes rule.conds) rule.actions) there).1
+        actions_within sizes (positive_classes rule.conds) rule.vars (known_after_conds [] rule.conds) rule.conds rule.actions class within sound.sound_actions (of_mode Grow x class (flat_map (grown_classes rule.conds) rule.actions) there).1
 
 -- two demands of one class that don't go together
 modes_disagree : (one other : Rule) (class : ℕ) (x y : Mode) → Among (class, x) (class_demands one) → Among (class, y) (class_demands other) → goes x y ≡ false → disagree (asks (class_demands one) class) (asks (class_demands other) class) ≡ true
@@ -397,8 +399,8 @@ Apart-rules : (program : Program) (one other : Rule) (a b : ℕ) → slice_get p
 Apart-rules program one other a b at at_other never =
     let count = length program.classes in
     let is : rules_interfere count one other ≡ false =
-      sym (ap (λ o. option_map_or (λ (r : Rule). option_map_or (λ (q : Rule). rules_interfere count r q) (slice_get program.rules b) false) o false) at
-        ∙ ap (λ o. option_map_or (λ (q : Rule). rules_interfere count one q) o false) at_other) ∙ never in
+    sym (ap (λ o. option_map_or (λ (r : Rule). option_map_or (λ (q : Rule). rules_interfere count r q) (slice_get program.rules b) false) o false) at
+    ∙ ap (λ o. option_map_or (λ (q : Rule). rules_interfere count one q) o false) at_other) ∙ never in
     let three = three_false (classes_disagree count one other) (takes_from one other) (takes_from other one) is in
     record { classes = three.0; one_takes = three.1.0; other_takes = three.1.1 }
 
@@ -458,6 +460,6 @@ ShareStripe-clash program memory c d sound rises listed listed_too never clash =
     let first = from_asks mine clash.lock clash.mode clash.beside asked clash.apart in
     let second = from_asks theirs clash.lock clash.beside first.mode asked_too (goes-symmetric clash.beside first.mode ∙ first.apart) in
     by_origins match.rule match_too.rule memory c.tags d.tags match.last match_too.last (length program.classes) clash.lock first.mode second.mode matched.walks matched_too.walks
-      (λ class of_class. omega (arith, class_within sizes match.rule class first.mode of_rule of_class, length-sizes program.classes))
-      (Apart-rules program match.rule match_too.rule c.rule d.rule match.at match_too.at never) (goes-symmetric first.mode second.mode ∙ second.apart)
-      (origin program memory match.rule c clash.lock first.mode first.there) (origin program memory match_too.rule d clash.lock second.mode second.there)
+    (λ class of_class. omega (arith, class_within sizes match.rule class first.mode of_rule of_class, length-sizes program.classes))
+    (Apart-rules program match.rule match_too.rule c.rule d.rule match.at match_too.at never) (goes-symmetric first.mode second.mode ∙ second.apart)
+    (origin program memory match.rule c clash.lock first.mode first.there) (origin program memory match_too.rule d clash.lock second.mode second.there)

@@ -1,5 +1,5 @@
 -- Which rules may interfere, and parts of rules.
-use Rattle.std.specs.Prelude.{◌≡◌, ℕ, List, [], ◌∷◌, Bool, true, false}
+use Rattle.std.specs.Prelude.{◌≡◌, List, [], ◌∷◌, true, false}
 use Rattle.rule_base.specs.declared.condition.Cond.{Cond}
 use Rattle.rule_base.specs.declared.condition.Test.TheVariants.{Bind}
 use Rattle.rule_base.specs.declared.action.Term.TheVariants.{Var}
@@ -26,12 +26,12 @@ abbrev pub six : Program
 six = record {
   classes = once.classes;
   rules = once_rule
-    ∷ small_rule (present 0 (Bind 0 0 ∷ []) ∷ []) (action.Make 1 1 ((0, Var 0) ∷ []) ∷ [])
-    ∷ small_rule (present 0 [] ∷ absent 1 [] ∷ []) []
-    ∷ small_rule (present 0 [] ∷ []) (action.Remove (0 ∷ []) ∷ [])
-    ∷ small_rule (present 1 [] ∷ []) (action.Remove (0 ∷ []) ∷ [])
-    ∷ small_rule (present 1 [] ∷ []) (action.Modify 0 [] ∷ [])
-    ∷ [];
+      ∷ small_rule (present 0 (Bind 0 0 ∷ []) ∷ []) (action.Make 1 1 ((0, Var 0) ∷ []) ∷ [])
+      ∷ small_rule (present 0 [] ∷ absent 1 [] ∷ []) []
+      ∷ small_rule (present 0 [] ∷ []) (action.Remove (0 ∷ []) ∷ [])
+      ∷ small_rule (present 1 [] ∷ []) (action.Remove (0 ∷ []) ∷ [])
+      ∷ small_rule (present 1 [] ∷ []) (action.Modify 0 [] ∷ [])
+      ∷ [];
   makes = [];
 }
 
