@@ -26,8 +26,8 @@ use Rattle.interference.specs.Locks.{region, stripe}
 use Rattle.interference.specs.Given.{negated, positive, taken, value_at}
 use Rattle.interference.specs.Regions.{grown_regions, known_after, region_locks, regions_by, regions_of_value, watched_regions}
 use Rattle.interference.specs.Splits.{split_of, splits_of}
-use Rattle.interference.specs.Footprint.{designated_demands, designators, in_mode, made_demands, matched_demands, negated_demands}
-use Rattle.interference.specs.PhantomLaw.{ClashIn}
+use Rattle.interference.specs.Footprint.{designated_demands, designators, footprint, in_mode, made_demands, matched_demands, negated_demands}
+use Rattle.interference.specs.PhantomLaw.{ClashIn, with_elements}
 use Rattle.interference.specs.MayInterfere.{class_at, class_demands, classes_disagree, classes_of, disagree, grown_classes, may_interfere, rules_interfere, takes_from}
 use Rattle.interference.specs.FootprintLaws.{ShareStripe}
 use Rattle.interference.proofs.ListLemmas.{Among-append, Each-among, IsAmongOne-flat_map}
