@@ -1,5 +1,5 @@
 -- Which demands a clash comes from, and why those of rules that may not interfere are of two tags on one stripe.
-use Rattle.std.proofs.Common.{◌≡◌, ℕ, zero, suc, ◌+◌, ◌*◌, ◌%◌, ◌<◌, ◌≤◌, List, [], ◌∷◌, ◌++◌, Bool, true, false, cond, not, ◌&&◌, ◌||◌, Option, Some, None, ◌⊎◌, inl, inr, filter_map, flat_map, length, map, option_to_list, slice_get, zip, ◌==◌, refl, sym, ◌∙◌, ap, subst, arith, true≢false}
+use Rattle.std.proofs.Common.{◌≡◌, ℕ, zero, suc, ◌+◌, ◌<◌, List, [], ◌∷◌, ◌++◌, Bool, true, false, cond, not, ◌||◌, Option, Some, None, ◌⊎◌, inl, inr, filter_map, flat_map, length, map, option_to_list, slice_get, zip, ◌==◌, refl, sym, ◌∙◌, ap, subst, arith, true≢false}
 use Rattle.std.specs.List.{AllByRecursion, cons_option, list_any, range_with_len}
 use Rattle.std.specs.Option.{option_map_or}
 use Rattle.std.proofs.lemmas.Bool.Decides.{Decides-eqb}
@@ -22,22 +22,22 @@ use Rattle.rule_base.specs.Step.{is_listed}
 use Rattle.rule_base.proofs.AmongLemmas.{Among, Among-append_left, Among-append_right, Among-flat_map, Among-map, list_any-among}
 use Rattle.rule_base.proofs.EachLemmas.{Each-filter, Each-slice_get}
 use Rattle.interference.specs.Modes.{asks, both, goes, joined}
-use Rattle.interference.specs.Locks.{bucket, every_region, region, stripe}
+use Rattle.interference.specs.Locks.{region, stripe}
 use Rattle.interference.specs.Given.{negated, positive, taken, value_at}
 use Rattle.interference.specs.Regions.{grown_regions, known_after, region_locks, regions_by, regions_of_value, watched_regions}
 use Rattle.interference.specs.Splits.{split_of, splits_of}
-use Rattle.interference.specs.Footprint.{Clash, designated_demands, designators, footprint, gathered, in_mode, made_demands, matched_demands, negated_demands}
+use Rattle.interference.specs.Footprint.{designated_demands, designators, footprint, in_mode, made_demands, matched_demands, negated_demands}
 use Rattle.interference.specs.PhantomLaw.{ClashIn, with_elements}
 use Rattle.interference.specs.MayInterfere.{class_at, class_demands, classes_disagree, classes_of, disagree, grown_classes, may_interfere, rules_interfere, takes_from}
 use Rattle.interference.specs.FootprintLaws.{ShareStripe}
-use Rattle.interference.proofs.ListLemmas.{Among-append, Among-list_any, Each-among, IsAmongOne-flat_map}
-use Rattle.interference.proofs.ModeLemmas.{IsCovered-among, asks-gathered, goes-symmetric}
+use Rattle.interference.proofs.ListLemmas.{Among-append, Each-among, IsAmongOne-flat_map}
+use Rattle.interference.proofs.ModeLemmas.{IsCovered-among, goes-symmetric}
 use Rattle.interference.proofs.BindingLemmas.{IsAccepted-accepts}
 use Rattle.interference.proofs.RegionLemmas.{Among-range, bucket_below}
 use Rattle.interference.proofs.WalkLemmas.{Walks, WalksBy}
-use Rattle.interference.proofs.MatchedLemmas.{IsMatch, IsMatch-matches, IsMatched, IsMatched-match_of, matches-listed}
+use Rattle.interference.proofs.MatchedLemmas.{IsMatch-matches, IsMatched-match_of, matches-listed}
 use Rattle.interference.proofs.DemandCodeLemmas.{length-sizes, within_by_get}
-use Rattle.interference.proofs.DemandLemmas.{Among-filter_map, demands_in, footprint-rule}
+use Rattle.interference.proofs.DemandLemmas.{Among-filter_map, asks-footprint, demands_in}
 
 -- of two modes in one, what doesn't go with it doesn't go with one of the two
 apart_of_both : (a b other : Mode) → goes (both a b) other ≡ false → (goes a other ≡ false) ⊎ (goes b other ≡ false)
@@ -97,6 +97,10 @@ by_first first demands lock mode other false rest is is_rest asked apart later =
 from_asks : (demands : List (ℕ × Mode)) (lock : ℕ) (mode other : Mode) → asks demands lock ≡ Some mode → goes mode other ≡ false → Demands demands lock other
 from_asks [] lock mode other asked apart = absurd (let wrong : ⊥ = cc in wrong)
 from_asks (first ∷ demands) lock mode other asked apart = by_first first demands lock mode other (first.0 == lock) (asks demands lock) refl refl asked apart (λ m. from_asks demands lock m other)
+
+-- the same of a footprint and the demands of its choice
+from_footprint : (program : Program) (memory : Memory) (rule : Rule) (c : Choice) (lock : ℕ) (mode other : Mode) → slice_get program.rules c.rule ≡ Some rule → asks (footprint program (with_elements memory c)) lock ≡ Some mode → goes mode other ≡ false → Demands (demands_in program memory rule c) lock other
+from_footprint program memory rule c lock mode other at asked apart = from_asks (demands_in program memory rule c) lock mode other (sym (asks-footprint program memory rule c lock at) ∙ asked) apart
 
 -- a member of a mapped list
 record IsMapped {X Y : Type 0} (f : X → Y) (y : Y) (xs : List X) : Type 0 where
@@ -453,12 +457,8 @@ ShareStripe-clash program memory c d sound rises listed listed_too never clash =
     let of_other = Each-slice_get (IsSoundRule sizes) program.rules d.rule match_too.rule sound.sound_rules match_too.at in
     let matched = IsMatched-match_of sizes match.rule c.tags memory match.last of_rule match.is in
     let matched_too = IsMatched-match_of sizes match_too.rule d.tags memory match_too.last of_other match_too.is in
-    let mine = demands_in program memory match.rule c in
-    let theirs = demands_in program memory match_too.rule d in
-    let asked : asks mine clash.lock ≡ Some clash.mode = sym (ap (λ f. asks f clash.lock) (footprint-rule program memory match.rule c match.at) ∙ asks-gathered mine clash.lock) ∙ clash.asked in
-    let asked_too : asks theirs clash.lock ≡ Some clash.beside = sym (ap (λ f. asks f clash.lock) (footprint-rule program memory match_too.rule d match_too.at) ∙ asks-gathered theirs clash.lock) ∙ clash.asked_too in
-    let first = from_asks mine clash.lock clash.mode clash.beside asked clash.apart in
-    let second = from_asks theirs clash.lock clash.beside first.mode asked_too (goes-symmetric clash.beside first.mode ∙ first.apart) in
+    let first = from_footprint program memory match.rule c clash.lock clash.mode clash.beside match.at clash.asked clash.apart in
+    let second = from_footprint program memory match_too.rule d clash.lock clash.beside first.mode match_too.at clash.asked_too (goes-symmetric clash.beside first.mode ∙ first.apart) in
     by_origins match.rule match_too.rule memory c.tags d.tags match.last match_too.last (length program.classes) clash.lock first.mode second.mode matched.walks matched_too.walks
     (λ class of_class. omega (arith, class_within sizes match.rule class first.mode of_rule of_class, length-sizes program.classes))
     (Apart-rules program match.rule match_too.rule c.rule d.rule match.at match_too.at never) (goes-symmetric first.mode second.mode ∙ second.apart)

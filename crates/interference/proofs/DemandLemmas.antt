@@ -11,14 +11,14 @@ use Rattle.rule_base.specs.declared.program.Rule.{Rule}
 use Rattle.rule_base.specs.declared.program.Program.{Program}
 use Rattle.rule_base.specs.Memory.{Memory, elements_at}
 use Rattle.rule_base.proofs.AmongLemmas.{Among, Among-append_left, Among-append_right, Among-flat_map, Among-map}
-use Rattle.interference.specs.Modes.{goes}
+use Rattle.interference.specs.Modes.{asks, goes}
 use Rattle.interference.specs.Locks.{stripe}
 use Rattle.interference.specs.Given.{negated}
 use Rattle.interference.specs.Splits.{splits_of}
 use Rattle.interference.specs.Regions.{grown_regions, watched_regions}
 use Rattle.interference.specs.Footprint.{Clash, demands, designated_demands, designators, footprint, gathered, made_demands, matched_demands, negated_demands}
 use Rattle.interference.specs.PhantomLaw.{ClashIn, with_elements}
-use Rattle.interference.proofs.ModeLemmas.{Clash-demands}
+use Rattle.interference.proofs.ModeLemmas.{Clash-demands, asks-gathered}
 
 filter_first : {X : Type 0} (p : X → Bool) (x y : X) (xs : List X) (b : Bool) → p y ≡ b → p x ≡ true → (x ≡ y) ⊎ Among x xs → (Among x xs → Among x (filter p xs)) → Among x (cond b (y ∷ filter p xs) (filter p xs))
 filter_first p x y xs true is passes (inl same) later = inl same
@@ -94,6 +94,10 @@ made_is_demanded program memory rule c a lock of_rule of_region =
 -- two demands that don't go together are a clash
 pub footprint-rule : (program : Program) (memory : Memory) (rule : Rule) (c : Choice) → slice_get program.rules c.rule ≡ Some rule → footprint program (with_elements memory c) ≡ gathered (demands_in program memory rule c)
 footprint-rule program memory rule c at = ap (λ o. option_map_or (λ (r : Rule). gathered (demands (splits_of program) r (with_elements memory c))) o []) at
+
+-- so a footprint asks of a lock what the demands do
+pub asks-footprint : (program : Program) (memory : Memory) (rule : Rule) (c : Choice) (lock : ℕ) → slice_get program.rules c.rule ≡ Some rule → asks (footprint program (with_elements memory c)) lock ≡ asks (demands_in program memory rule c) lock
+asks-footprint program memory rule c lock at = ap (λ f. asks f lock) (footprint-rule program memory rule c at) ∙ asks-gathered (demands_in program memory rule c) lock
 
 pub ClashIn-demands : (program : Program) (memory : Memory) (rule other : Rule) (c d : Choice) (lock : ℕ) (mode beside : Mode) → slice_get program.rules c.rule ≡ Some rule → slice_get program.rules d.rule ≡ Some other
     → Among (lock, mode) (demands_in program memory rule c) → Among (lock, beside) (demands_in program memory other d) → goes mode beside ≡ false → ClashIn program memory c d

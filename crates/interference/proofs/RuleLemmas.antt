@@ -87,9 +87,13 @@ filter-range_next p count =
     ap (filter p) (range-next 0 count) ∙ filter-append p (range_with_len 0 count) ((0 + count) ∷ [])
     ∙ ap (λ n. filter p (range_with_len 0 count) ++ (if p n then n ∷ [] else [])) (from_zero count)
 
-pub map-range_next : {Y : Type 0} (f : ℕ → Y) (count : ℕ) → map f (range_with_len 0 (count + 1)) ≡ map f (range_with_len 0 count) ++ f count ∷ []
+map-range_next : {Y : Type 0} (f : ℕ → Y) (count : ℕ) → map f (range_with_len 0 (count + 1)) ≡ map f (range_with_len 0 count) ++ f count ∷ []
 map-range_next f count =
     ap (map f) (range-next 0 count) ∙ map-append f (range_with_len 0 count) ((0 + count) ∷ []) ∙ ap (λ n. map f (range_with_len 0 count) ++ f n ∷ []) (from_zero count)
+
+pub map-range_push : {Y : Type 0} (f : ℕ → Y) (count : ℕ) (before after : List Y) (next : Y) → after ≡ before ++ next ∷ [] → before ≡ map f (range_with_len 0 count) → next ≡ f count → after ≡ map f (range_with_len 0 (count + 1))
+map-range_push f count before after next is before_is next_is =
+    is ∙ ap (λ all. all ++ next ∷ []) before_is ∙ ap (λ y. map f (range_with_len 0 count) ++ y ∷ []) next_is ∙ sym (map-range_next f count)
 
 pub none-range_next : (p : ℕ → Bool) (count : ℕ) → list_any p (range_with_len 0 count) ≡ false → p count ≡ false → list_any p (range_with_len 0 (count + 1)) ≡ false
 none-range_next p count none fails =

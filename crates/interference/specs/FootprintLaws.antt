@@ -9,8 +9,8 @@ use Rattle.rule_base.specs.Sound.{IsSound}
 use Rattle.rule_base.specs.Step.{is_listed}
 use Rattle.interference.specs.Modes.{asks}
 use Rattle.interference.specs.Locks.{stripe}
-use Rattle.interference.specs.Footprint.{Clash, footprint, gathered}
-use Rattle.interference.specs.PhantomLaw.{ClashIn, with_elements}
+use Rattle.interference.specs.Footprint.{gathered}
+use Rattle.interference.specs.PhantomLaw.{ClashIn}
 use Rattle.interference.specs.MayInterfere.{may_interfere}
 
 -- gathered demands ask the same of each lock as before

@@ -23,7 +23,7 @@ use rule_base::{Action, Candidate, Cond, Elements, Mode, Program, Rule, Term};
 /// Fills `out` with the footprint of a candidate, in place of what was there. It goes through the
 /// condition elements and the actions of the rule, and through the tests of its positive condition
 /// elements again for each variable that it needs. `out` grows where it has too little room, and
-/// nothing else takes memory. After want of memory `out` has a part of the footprint.
+/// nothing else takes memory. After want of memory what `out` has is of no use.
 pub fn footprint(
     program: &Program,
     splits: &Splits,

@@ -1,5 +1,5 @@
 -- Which rules may interfere, and parts of rules.
-use Rattle.std.specs.Prelude.{◌≡◌, ℕ, List, [], ◌∷◌, Bool, true, false}
+use Rattle.std.specs.Prelude.{◌≡◌, List, [], ◌∷◌, true, false}
 use Rattle.rule_base.specs.declared.condition.Cond.{Cond}
 use Rattle.rule_base.specs.declared.condition.Test.TheVariants.{Bind}
 use Rattle.rule_base.specs.declared.action.Term.TheVariants.{Var}
