@@ -25,3 +25,6 @@ pub mod WrittenConditionLemmas
 pub mod LaterClassLemmas
 pub mod WrittenRuleLemmas
 pub mod WrittenMatchLemmas
+pub mod WrittenTermLemmas
+pub mod DesignatorLemmas
+pub mod WrittenEffectLemmas

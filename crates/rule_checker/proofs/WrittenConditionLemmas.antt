@@ -151,15 +151,19 @@ numbers-behind false before done none outside inside =
 
 numbered-behind : (negated : Bool) (before done : Scope) → variable_of (behind done) ≡ numbers_behind negated (variable_of before) (variable_of done) → before.vars ≤ done.vars → IsNumbered before → IsNumbered done → IsNumbered (behind done)
 numbered-behind true before done same grown front inside = record {
-  below = λ name var is.
-      let there : variable_of before name ≡ Some var = sym (ap (λ (f : ℕ → Option ℕ). f name) same) ∙ is in
-      omega (arith, front.below name var there, grown);
+  below = λ name var is. omega (arith, front.below name var (there name var is), grown);
+  apart = λ first second var is also. front.apart first second var (there first var is) (there second var also);
 }
+  where
+    there : (name var : ℕ) → variable_of (behind done) name ≡ Some var → variable_of before name ≡ Some var
+    there name var is = sym (ap (λ (f : ℕ → Option ℕ). f name) same) ∙ is
 numbered-behind false before done same grown front inside = record {
-  below = λ name var is.
-      let there : variable_of done name ≡ Some var = sym (ap (λ (f : ℕ → Option ℕ). f name) same) ∙ is in
-      inside.below name var there;
+  below = λ name var is. inside.below name var (there name var is);
+  apart = λ first second var is also. inside.apart first second var (there first var is) (there second var also);
 }
+  where
+    there : (name var : ℕ) → variable_of (behind done) name ≡ Some var → variable_of done name ≡ Some var
+    there name var is = sym (ap (λ (f : ℕ → Option ℕ). f name) same) ∙ is
 
 -- a condition element with its pattern
 pub record HasPattern (class : ℕ) (attrs : List ℕ) (left : LeftSide) (w : FormCond) (next : LeftSide) : Type 0 where
@@ -240,12 +244,13 @@ pub record HasWalked (classes : List Class) (vars : ℕ) (left : LeftSide) (ws :
   pub conds : List Cond
   pub more : last.conds ≡ left.conds ++ conds
   pub walked : Walked classes vars left ws conds last
+  pub numbered : IsNumbered last.scope
 
 pub conds-walked : (classes : List Class) (vars : ℕ) (left : LeftSide) (ws : List FormCond) (last : LeftSide) → AreNamedOnce classes → left.scope.local ≡ [] → IsNumbered left.scope → last.scope.vars ≤ vars
     → after_each (with_cond classes) left ws ≡ Ok last → HasWalked classes vars left ws last
 conds-walked classes vars left [] last once none numbered room e =
     let same = same_ok e in
-    record { conds = []; more = ap (λ (l : LeftSide). l.conds) (sym same) ∙ sym (append-nil left.conds); walked = same }
+    record { conds = []; more = ap (λ (l : LeftSide). l.conds) (sym same) ∙ sym (append-nil left.conds); walked = same; numbered = subst (λ (l : LeftSide). IsNumbered l.scope) same numbered }
 conds-walked classes vars left (w ∷ ws) last once none numbered room e =
     let t = passed (with_cond classes left w) (λ mid. after_each (with_cond classes) mid ws) last e in
     let first = (cond-checks classes t.0.scope.vars left w t.0 once none numbered (omega arith) t.1).1 in
@@ -256,6 +261,7 @@ conds-walked classes vars left (w ∷ ws) last once none numbered room e =
       conds = c.0 ∷ rest.conds;
       more = rest.more ∙ ap (λ (cs : List Cond). cs ++ rest.conds) c.1.conds ∙ append_assoc left.conds (c.0 ∷ []) rest.conds;
       walked = (t.0, c.1, rest.walked);
+      numbered = rest.numbered;
     }
 
 -- so they ask what is written

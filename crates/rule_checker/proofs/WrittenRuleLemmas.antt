@@ -212,7 +212,7 @@ sides-of classes w rule once e =
       left_is = l.1;
       right_is = r.1;
       is = is;
-      walked = conds-walked classes rule.vars no_conditions w.conds l.0 once refl (record { below = λ name var known. absurd (cc) }) room l.1;
+      walked = conds-walked classes rule.vars no_conditions w.conds l.0 once refl (record { below = λ name var known. absurd (cc); apart = λ first second var known also. absurd (cc) }) room l.1;
     }
 
 -- its condition elements ask what is written

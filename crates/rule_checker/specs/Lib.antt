@@ -23,6 +23,9 @@ pub mod WrittenTests
 pub mod WrittenConditions
 pub mod WrittenRules
 pub mod WrittenMatch
+pub mod WrittenTerms
+pub mod Designators
+pub mod WrittenEffect
 pub mod WrittenLaws
 -- what the code keeps
 pub mod Kept

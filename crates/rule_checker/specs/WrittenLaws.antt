@@ -6,6 +6,7 @@ use Rattle.ops_reader.specs.declared.form.Form.{Form}
 use Rattle.rule_checker.specs.Checked.{checked}
 use Rattle.rule_checker.specs.WrittenRules.{written_rules, HasWrittenConditions}
 use Rattle.rule_checker.specs.WrittenMatch.{HasWrittenMatch}
+use Rattle.rule_checker.specs.WrittenEffect.{HasWrittenEffect}
 
 -- the rules of a checked program are those of its forms, in order, and the condition elements of each ask what is written
 abbrev pub ConditionsAreWritten : Type 0
@@ -16,3 +17,8 @@ ConditionsAreWritten = (forms : List Form) (program : Program) → checked forms
 abbrev pub MatchesAreWritten : Type 0
 MatchesAreWritten = (forms : List Form) (program : Program) → checked forms ≡ Ok program
     → AllZip (HasWrittenMatch program.classes) (written_rules forms) program.rules
+
+-- the rules of a checked program are those of its forms, in order, and the effect of each is the one that is written
+abbrev pub EffectsAreWritten : Type 0
+EffectsAreWritten = (forms : List Form) (program : Program) → checked forms ≡ Ok program
+    → AllZip (HasWrittenEffect program.classes) (written_rules forms) program.rules

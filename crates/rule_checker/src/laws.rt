@@ -1,7 +1,7 @@
 //! Laws of the definitions. Each function here does nothing: its contract is the law.
 
 ghost use Rattle.rule_checker.specs.Laws.{CheckedAreSound, CheckedDeclareAll, ViolationsAreFirst, FrontDecides, ProgramKinds, MemoryFileKinds};
-ghost use Rattle.rule_checker.specs.WrittenLaws.{ConditionsAreWritten, MatchesAreWritten};
+ghost use Rattle.rule_checker.specs.WrittenLaws.{ConditionsAreWritten, MatchesAreWritten, EffectsAreWritten};
 ghost use Rattle.rule_checker.specs.Rows.Programs.{ArePrograms};
 ghost use Rattle.rule_checker.specs.Rows.Violations.{AreDeclarationViolations, AreConditionViolations, AreActionViolations};
 ghost use Rattle.rule_checker.specs.Rows.Openings.{AreOpenings};
@@ -59,4 +59,10 @@ pub fn conditions_are_written()
 /// fails at the same condition element.
 pub fn matches_are_written()
     ensures { MatchesAreWritten }
+{}
+
+/// The effect of each rule of a checked program is the one that is written: with the same elements it
+/// changes and writes the same, or the same action fails for the same cause.
+pub fn effects_are_written()
+    ensures { EffectsAreWritten }
 {}
