@@ -28,3 +28,4 @@ pub mod WrittenMatchLemmas
 pub mod WrittenTermLemmas
 pub mod DesignatorLemmas
 pub mod WrittenEffectLemmas
+pub mod WrittenLemmas

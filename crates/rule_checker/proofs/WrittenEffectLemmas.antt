@@ -323,16 +323,11 @@ matched-effect classes w rule s elements bindings named is same =
     ∙ ap (λ (b : Progress). after_actions 1 elements act.made b >>= λ (r : Progress). Ok r.done) begins
     ∙ done-same s.right.scope rule.vars (after_actions 1 elements act.made p) (after_written_actions 1 classes w.conds elements w.actions q) ends
 
-rule-acts : (classes : List Class) (w : WrittenRule) (rule : Rule) → HasSides classes w rule → HasWrittenEffect classes w rule
-rule-acts classes w rule s = record {
+pub sides-act : (classes : List Class) (w : WrittenRule) (rule : Rule) → HasSides classes w rule → HasWrittenEffect classes w rule
+sides-act classes w rule s = record {
   same = λ memory tags bindings named sized is written.
       let both = sides-match classes w rule s memory tags sized in
       let by_number = subst (λ (o : Result Bindings ℕ). MatchTheSame (variable_of s.left.scope) o (written_match classes w tags memory)) is both in
       let same = subst (λ (o : Result NamedValues ℕ). MatchTheSame (variable_of s.left.scope) (Ok bindings) o) written by_number in
       matched-effect classes w rule s (elements_at memory tags) bindings named (bindings_with-elements_at rule tags memory bindings is) same;
 }
-
-pub checked-effects : (forms : List Form) (p : Program) → checked forms ≡ Ok p → AllZip (HasWrittenEffect p.classes) (written_rules forms) p.rules
-checked-effects forms p e =
-    let h = checked-has_rules forms p e in
-    zip_map (IsCheckedTo p.classes) (HasWrittenEffect p.classes) (λ w rule is. rule-acts p.classes w rule (sides-of p.classes w rule h.once is)) (written_rules forms) p.rules h.rules

@@ -186,11 +186,3 @@ sides-match classes w rule s memory tags sized =
     let conds : rule.conds ≡ s.walked.conds = ap (λ (x : Rule). x.conds) s.is ∙ s.walked.more in
     let same = match-walked classes rule.vars memory sized no_conditions w.conds s.walked.conds s.left s.walked.walked 1 tags (no_bindings rule.vars) [] (length-replicate rule.vars None) (nothing-said rule.vars) in
     subst (λ (cs : List Cond). MatchTheSame (variable_of s.left.scope) (match_from 1 cs memory tags (no_bindings rule.vars)) (written_match classes w tags memory)) (sym conds) same
-
-rule-matches : (classes : List Class) (w : WrittenRule) (rule : Rule) → HasSides classes w rule → HasWrittenMatch classes w rule
-rule-matches classes w rule s = record { number = variable_of s.left.scope; same = λ memory tags sized. sides-match classes w rule s memory tags sized }
-
-pub checked-matches : (forms : List Form) (p : Program) → checked forms ≡ Ok p → AllZip (HasWrittenMatch p.classes) (written_rules forms) p.rules
-checked-matches forms p e =
-    let h = checked-has_rules forms p e in
-    zip_map (IsCheckedTo p.classes) (HasWrittenMatch p.classes) (λ w rule is. rule-matches p.classes w rule (sides-of p.classes w rule h.once is)) (written_rules forms) p.rules h.rules

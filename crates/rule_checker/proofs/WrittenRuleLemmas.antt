@@ -216,13 +216,7 @@ sides-of classes w rule once e =
     }
 
 -- its condition elements ask what is written
-rule-asks : (classes : List Class) (w : WrittenRule) (rule : Rule) → AreNamedOnce classes → IsCheckedTo classes w rule → HasWrittenConditions classes w rule
-rule-asks classes w rule once e =
-    let s = sides-of classes w rule once e in
+pub sides-ask : (classes : List Class) (w : WrittenRule) (rule : Rule) → HasSides classes w rule → HasWrittenConditions classes w rule
+sides-ask classes w rule s =
     let conds : rule.conds ≡ s.walked.conds = ap (λ (x : Rule). x.conds) s.is ∙ s.walked.more in
     rw conds (walked-ask classes rule.vars no_conditions w.conds s.walked.conds s.left s.walked.walked)
-
-pub checked-conditions : (forms : List Form) (p : Program) → checked forms ≡ Ok p → AllZip (HasWrittenConditions p.classes) (written_rules forms) p.rules
-checked-conditions forms p e =
-    let h = checked-has_rules forms p e in
-    zip_map (IsCheckedTo p.classes) (HasWrittenConditions p.classes) (λ w rule is. rule-asks p.classes w rule h.once is) (written_rules forms) p.rules h.rules

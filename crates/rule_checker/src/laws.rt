@@ -1,7 +1,7 @@
 //! Laws of the definitions. Each function here does nothing: its contract is the law.
 
 ghost use Rattle.rule_checker.specs.Laws.{CheckedAreSound, CheckedDeclareAll, ViolationsAreFirst, FrontDecides, ProgramKinds, MemoryFileKinds};
-ghost use Rattle.rule_checker.specs.WrittenLaws.{ConditionsAreWritten, MatchesAreWritten, EffectsAreWritten};
+ghost use Rattle.rule_checker.specs.WrittenLaws.{RulesMeanWhatIsWritten};
 ghost use Rattle.rule_checker.specs.Rows.Programs.{ArePrograms};
 ghost use Rattle.rule_checker.specs.Rows.Violations.{AreDeclarationViolations, AreConditionViolations, AreActionViolations};
 ghost use Rattle.rule_checker.specs.Rows.Openings.{AreOpenings};
@@ -48,21 +48,9 @@ pub fn violations_are_of_these_kinds()
     ensures memory_file { MemoryFileKinds }
 {}
 
-/// The rules of a checked program are those of its forms, in their order, and each condition element asks
-/// what is written: under bindings that say the same it accepts the same elements, and then the bindings say
-/// the same again.
-pub fn conditions_are_written()
-    ensures { ConditionsAreWritten }
-{}
-
-/// Each rule of a checked program matches as it is written: with the same tags in the same memory, or it
-/// fails at the same condition element.
-pub fn matches_are_written()
-    ensures { MatchesAreWritten }
-{}
-
-/// The effect of each rule of a checked program is the one that is written: with the same elements it
-/// changes and writes the same, or the same action fails for the same cause.
-pub fn effects_are_written()
-    ensures { EffectsAreWritten }
+/// The rules of a checked program are those of its forms, in their order, and each means what is written:
+/// its condition elements accept the same elements, it matches with the same tags, and it changes and
+/// writes the same. What is written is said over names and values alone.
+pub fn rules_mean_what_is_written()
+    ensures { RulesMeanWhatIsWritten }
 {}
