@@ -1,11 +1,11 @@
 -- The elements that designators stand for, by their place and by what is written.
-use Rattle.std.proofs.Common.{◌≡◌, ℕ, ◌+◌, ◌<◌, Bool, true, false, cond, ◌==◌, List, [], ◌∷◌, ◌++◌, Option, None, Some, option_map, option_and_then, Result, Ok, length, map, nat_eq, nat_le, slice_get, pos, negsuc, zero, suc, refl, sym, ap, ◌∙◌, subst, arith, length-append, append_assoc, append-nil}
+use Rattle.std.proofs.Common.{◌≡◌, ℕ, ◌+◌, Bool, true, false, cond, ◌==◌, List, [], ◌∷◌, ◌++◌, Option, None, Some, option_map, option_and_then, Ok, length, map, nat_eq, nat_le, slice_get, pos, negsuc, zero, suc, refl, sym, ap, ◌∙◌, subst, arith, length-append, append_assoc, append-nil}
 use Rattle.std.specs.Map.{lookup}
 use Rattle.std.proofs.lemmas.Bool.Decides.{nat_tests}
 use Rattle.rule_base.specs.declared.element.Element.{Element}
 use Rattle.rule_base.specs.declared.condition.Cond.{Cond}
 use Rattle.rule_base.specs.declared.program.Class.{Class}
-use Rattle.rule_base.specs.Chains.{only_if, ◌>>=◌}
+use Rattle.rule_base.specs.Chains.{only_if}
 use Rattle.rule_base.specs.Bindings.{Bindings}
 use Rattle.rule_base.specs.Acceptance.{after_tests, accepts}
 use Rattle.rule_base.specs.ElementMatch.{after_element, matched}
@@ -17,11 +17,11 @@ use Rattle.rule_checker.specs.declared.left_side.Elements.{Elements}
 use Rattle.rule_checker.specs.declared.left_side.LeftSide.{LeftSide}
 use Rattle.rule_checker.specs.Names.{Numbering, number_of}
 use Rattle.rule_checker.specs.Walk.{refused_if}
-use Rattle.rule_checker.specs.LeftSide.{new_element_variable, with_element, elements_after, no_conditions}
+use Rattle.rule_checker.specs.LeftSide.{new_element_variable, elements_after, no_conditions}
 use Rattle.rule_checker.specs.RightSide.{known_designator}
-use Rattle.rule_checker.specs.Designators.{named_first, named_next, named_elements, designated}
+use Rattle.rule_checker.specs.Designators.{named_next, named_elements, designated}
 use Rattle.rule_checker.proofs.ResultLemmas.{passed, found, same_ok}
-use Rattle.rule_checker.proofs.WrittenConditionLemmas.{Checks, Walked}
+use Rattle.rule_checker.proofs.WrittenConditionLemmas.{Walked}
 
 -- how many elements a condition element takes, of which class, and which place its name gets
 abbrev taken : Bool → ℕ

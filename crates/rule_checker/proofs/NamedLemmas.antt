@@ -1,5 +1,5 @@
 -- How the variables of a scope are found by their names, and what one variable more leaves as it was.
-use Rattle.std.proofs.Common.{◌≡◌, ◌≢◌, ◌⊎◌, inl, inr, ℕ, ◌+◌, ◌≤◌, ◌<◌, Bool, true, false, cond, List, [], ◌∷◌, ◌++◌, Option, None, Some, is_some, length, nat_eq, slice_get, slice_set, get_or, zero, suc, refl, sym, ap, ◌∙◌, subst, arith}
+use Rattle.std.proofs.Common.{◌≡◌, ◌≢◌, ◌⊎◌, inl, inr, ℕ, ◌+◌, ◌<◌, Bool, true, false, cond, List, [], ◌∷◌, ◌++◌, Option, None, Some, is_some, length, nat_eq, slice_get, slice_set, get_or, zero, suc, refl, sym, ap, ◌∙◌, arith}
 use Rattle.std.specs.Option.{option_or, option_flatten}
 use Rattle.std.specs.List.{zip}
 use Rattle.std.specs.Map.{lookup}

@@ -1,5 +1,5 @@
 -- The condition elements of a rule ask what is written: one at a time, and then from left to right.
-use Rattle.std.proofs.Common.{◌≡◌, ℕ, ◌+◌, ◌≤◌, ◌<◌, Bool, true, false, ◌==◌, List, [], ◌∷◌, ◌++◌, Option, None, Some, option_map, option_and_then, Result, Ok, length, map, nat_eq, replicate, slice_get, get_or, refl, sym, ap, ◌∙◌, subst, arith, rules, tests, append_assoc, append-nil}
+use Rattle.std.proofs.Common.{◌≡◌, ℕ, ◌≤◌, Bool, true, false, ◌==◌, List, [], ◌∷◌, ◌++◌, Option, None, Some, option_map, option_and_then, Ok, length, nat_eq, replicate, slice_get, get_or, refl, sym, ap, ◌∙◌, subst, arith, append_assoc, append-nil}
 use Rattle.std.specs.Option.{option_map_or, option_or}
 use Rattle.std.specs.List.{zip}
 use Rattle.std.proofs.lemmas.List.Quantifiers.{position-Some}
@@ -14,7 +14,6 @@ use Rattle.rule_base.specs.declared.condition.Cond.{Cond}
 use Rattle.rule_base.specs.declared.program.Class.{Class}
 use Rattle.rule_base.specs.Chains.{only_if, ◌>>=◌}
 use Rattle.rule_base.specs.Bindings.{Bindings}
-use Rattle.rule_base.specs.Memory.{HasSize}
 use Rattle.rule_base.specs.Acceptance.{accepts, after_tests}
 use Rattle.rule_base.specs.Sound.{sizes_of}
 use Rattle.ops_reader.specs.declared.form.FormCond.{FormCond}
@@ -29,12 +28,12 @@ use Rattle.rule_checker.specs.Classes.{class_names, declared_class, attributes_a
 use Rattle.rule_checker.specs.Scope.{variable_of, behind}
 use Rattle.rule_checker.specs.ConditionTests.{tests_of}
 use Rattle.rule_checker.specs.LeftSide.{few_conditions, first_is_positive, elements_after, with_pattern, with_cond}
-use Rattle.rule_checker.specs.NamedBindings.{NamedValues, SayTheSame, AgreeOn}
-use Rattle.rule_checker.specs.WrittenConditions.{after_attributes, attributes_in, accepts_values, accepts_written}
+use Rattle.rule_checker.specs.NamedBindings.{NamedValues, AgreeOn}
+use Rattle.rule_checker.specs.WrittenConditions.{after_attributes, attributes_in, accepts_written}
 use Rattle.rule_checker.specs.WrittenRules.{AsksWhatIsWritten, numbers_behind, AskWhatIsWritten}
 use Rattle.rule_checker.proofs.ResultLemmas.{passed, found, same_ok}
 use Rattle.rule_checker.proofs.NamedLemmas.{equal_numbers, IsNumbered}
-use Rattle.rule_checker.proofs.WrittenTestLemmas.{Agrees, Goes, attributes-go}
+use Rattle.rule_checker.proofs.WrittenTestLemmas.{Agrees, attributes-go}
 
 -- each class is found by its name
 pub record AreNamedOnce (classes : List Class) : Type 0 where

@@ -1,5 +1,5 @@
 -- The effect of a rule that is checked is the one that is written: one action at a time.
-use Rattle.std.proofs.Common.{◌≡◌, ℕ, ◌+◌, ◌≤◌, ◌<◌, Bool, true, false, if◌then◌else◌, List, [], ◌∷◌, ◌++◌, Option, None, Some, option_map, unwrap_or, Result, Ok, Err, fold, length, map, nat_eq, replicate, slice_get, refl, sym, ap, ◌∙◌, subst, arith, append_assoc, append-nil, length-set}
+use Rattle.std.proofs.Common.{◌≡◌, ℕ, ◌+◌, ◌≤◌, ◌<◌, Bool, true, false, if◌then◌else◌, List, [], ◌∷◌, ◌++◌, Option, None, Some, option_map, unwrap_or, Result, Ok, Err, fold, length, replicate, slice_get, refl, sym, ap, ◌∙◌, subst, arith, append_assoc, append-nil, length-set}
 use Rattle.std.specs.Option.{option_map_or}
 use Rattle.std.specs.List.{AllZip}
 use Rattle.std.proofs.lemmas.List.{length-replicate}
@@ -13,23 +13,18 @@ use Rattle.rule_base.specs.declared.action.Action.{Action}
 use Rattle.rule_base.specs.declared.action.Action.TheVariants as action
 use Rattle.rule_base.specs.declared.program.Class.{Class}
 use Rattle.rule_base.specs.declared.program.Rule.{Rule}
-use Rattle.rule_base.specs.declared.program.Program.{Program}
 use Rattle.rule_base.specs.declared.change.Change.{Change}
 use Rattle.rule_base.specs.declared.change.Change.TheVariants as change
-use Rattle.rule_base.specs.declared.change.Piece.{Piece}
 use Rattle.rule_base.specs.declared.entry.FaultCause.{FaultCause}
-use Rattle.rule_base.specs.declared.entry.FaultCause.TheVariants.{Gone}
 use Rattle.rule_base.specs.Chains.{◌>>=◌}
 use Rattle.rule_base.specs.Value.{nil}
-use Rattle.rule_base.specs.Bindings.{Bindings, no_bindings, binding_of, bound}
-use Rattle.rule_base.specs.Memory.{Memory, elements_at}
-use Rattle.rule_base.specs.Match.{match_from, match_of}
+use Rattle.rule_base.specs.Bindings.{Bindings, no_bindings, bound}
+use Rattle.rule_base.specs.Memory.{elements_at}
 use Rattle.rule_base.specs.ElementMatch.{matched, bindings_with}
 use Rattle.rule_base.specs.Effect.{Effect, Failure, Progress, after_action as after_checked, after_actions, after_modify, after_remove, beginning, changing, effect, is_gone, modified, of_action, unless_gone}
 use Rattle.rule_base.specs.Term.{term_value, after_sets, item_pieces}
 use Rattle.rule_base.proofs.ElementMatchLemmas.{bindings_with-elements_at}
 use Rattle.ops_reader.specs.declared.form.At.{At}
-use Rattle.ops_reader.specs.declared.form.Form.{Form}
 use Rattle.ops_reader.specs.declared.form.FormTerm.{FormTerm}
 use Rattle.ops_reader.specs.declared.form.FormItem.{FormItem}
 use Rattle.ops_reader.specs.declared.form.FormCond.{FormCond}
@@ -44,20 +39,18 @@ use Rattle.rule_checker.specs.Walk.{after_each}
 use Rattle.rule_checker.specs.Classes.{class_names, declared_class, attributes_at}
 use Rattle.rule_checker.specs.Scope.{variable_of, with_variable}
 use Rattle.rule_checker.specs.Terms.{term_of, with_item}
-use Rattle.rule_checker.specs.LeftSide.{no_conditions}
-use Rattle.rule_checker.specs.RightSide.{few_actions, known_designator, with_setting, with_designator, make_action, attributes_of, modify_action, set_variable, with_plain_action, with_bind, after_action, with_action, right_side}
-use Rattle.rule_checker.specs.Checked.{checked}
-use Rattle.rule_checker.specs.NamedBindings.{NamedValues, naming, value_named, SayTheSame}
-use Rattle.rule_checker.specs.WrittenRules.{WrittenRule, written_rules}
+use Rattle.rule_checker.specs.RightSide.{few_actions, known_designator, with_setting, with_designator, make_action, attributes_of, modify_action, set_variable, with_plain_action, with_bind, after_action, with_action}
+use Rattle.rule_checker.specs.NamedBindings.{NamedValues, naming, SayTheSame}
+use Rattle.rule_checker.specs.WrittenRules.{WrittenRule}
 use Rattle.rule_checker.specs.WrittenTerms.{written_value, after_settings, written_pieces}
 use Rattle.rule_checker.specs.Designators.{designated}
-use Rattle.rule_checker.specs.WrittenMatch.{written_match, MatchTheSame, AreOfClasses, HasWrittenMatch}
+use Rattle.rule_checker.specs.WrittenMatch.{written_match, MatchTheSame}
 use Rattle.rule_checker.specs.WrittenEffect.{WrittenProgress, with_changes, class_named, made_of_class, modified_anew, modified_unless, after_written_modify, removing, after_written_remove, after_written_action, after_written_actions, written_effect, HasWrittenEffect}
 use Rattle.rule_checker.proofs.ResultLemmas.{passed, found, same_ok}
 use Rattle.rule_checker.proofs.NamedLemmas.{IsNumbered, IsNumbered-more, SayTheSame-naming, SayTheSame-again}
-use Rattle.rule_checker.proofs.WrittenRuleLemmas.{IsCheckedTo, zip_map, checked-has_rules, HasSides, sides-of, with_action-grows}
+use Rattle.rule_checker.proofs.WrittenRuleLemmas.{HasSides, with_action-grows}
 use Rattle.rule_checker.proofs.WrittenMatchLemmas.{long-matched, sides-match}
-use Rattle.rule_checker.proofs.WrittenTermLemmas.{ReadsTheSame, Adds, adds-each, term-gives, written_settings-give, written_items-give}
+use Rattle.rule_checker.proofs.WrittenTermLemmas.{ReadsTheSame, adds-each, term-gives, written_settings-give, written_items-give}
 use Rattle.rule_checker.proofs.DesignatorLemmas.{StandsOn, stands-on}
 
 -- two right-hand sides that have come equally far

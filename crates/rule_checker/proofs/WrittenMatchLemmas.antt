@@ -1,38 +1,33 @@
 -- A rule that is checked matches as it is written: one condition element at a time.
-use Rattle.std.proofs.Common.{◌≡◌, ℕ, ◌+◌, Bool, true, false, not, cond, ◌==◌, List, [], ◌∷◌, ◌++◌, Option, None, Some, option_map, option_and_then, is_some, Result, Ok, Err, length, find, replicate, slice_get, refl, sym, ap, ◌∙◌, subst, arith, length-set}
-use Rattle.std.specs.List.{AllByRecursion, AllZip, list_any}
-use Rattle.std.specs.Option.{option_flatten}
+use Rattle.std.proofs.Common.{◌≡◌, ℕ, ◌+◌, Bool, true, false, not, cond, ◌==◌, List, [], ◌∷◌, Option, None, Some, option_map, option_and_then, is_some, Result, length, find, slice_get, refl, sym, ap, ◌∙◌, subst, length-set}
+use Rattle.std.specs.List.{AllByRecursion, list_any}
 use Rattle.std.proofs.lemmas.List.{length-replicate}
 use Rattle.rule_base.specs.declared.value.Value.{Value}
 use Rattle.rule_base.specs.declared.element.Element.{Element}
-use Rattle.rule_base.specs.declared.condition.Arg.{Arg}
 use Rattle.rule_base.specs.declared.condition.Test.{Test}
 use Rattle.rule_base.specs.declared.condition.Test.TheVariants as test
 use Rattle.rule_base.specs.declared.condition.Cond.{Cond}
 use Rattle.rule_base.specs.declared.program.Class.{Class}
 use Rattle.rule_base.specs.declared.program.Rule.{Rule}
-use Rattle.rule_base.specs.declared.program.Program.{Program}
 use Rattle.rule_base.specs.Chains.{only_if}
 use Rattle.rule_base.specs.Value.{same_value}
 use Rattle.rule_base.specs.Predicate.{holds}
-use Rattle.rule_base.specs.Bindings.{Bindings, no_bindings, binding_of, bound}
+use Rattle.rule_base.specs.Bindings.{Bindings, no_bindings, bound}
 use Rattle.rule_base.specs.Memory.{Memory, HasSize, element_at}
 use Rattle.rule_base.specs.Acceptance.{compared_with, after_test, after_tests, accepts}
-use Rattle.rule_base.specs.Match.{accepts_some, after_cond, go_on, match_from, match_of}
+use Rattle.rule_base.specs.Match.{after_cond, go_on, match_from, match_of}
 use Rattle.rule_base.specs.ElementMatch.{after_element, matched}
 use Rattle.rule_base.specs.Sound.{sizes_of}
 use Rattle.ops_reader.specs.declared.form.FormCond.{FormCond}
-use Rattle.ops_reader.specs.declared.form.Form.{Form}
 use Rattle.rule_checker.specs.declared.left_side.LeftSide.{LeftSide}
-use Rattle.rule_checker.specs.Checked.{checked}
 use Rattle.rule_checker.specs.Scope.{no_variables, variable_of}
 use Rattle.rule_checker.specs.LeftSide.{no_conditions}
-use Rattle.rule_checker.specs.NamedBindings.{NamedValues, value_named, SayTheSame, AgreeOn}
+use Rattle.rule_checker.specs.NamedBindings.{NamedValues, SayTheSame, AgreeOn}
 use Rattle.rule_checker.specs.WrittenConditions.{accepts_written}
-use Rattle.rule_checker.specs.WrittenRules.{WrittenRule, written_rules, numbers_behind}
-use Rattle.rule_checker.specs.WrittenMatch.{accepts_some_written, after_written_cond, written_match_from, written_match, MatchTheSame, AreOfClasses, HasWrittenMatch}
-use Rattle.rule_checker.proofs.WrittenConditionLemmas.{AreNamedOnce, Checks, Walked}
-use Rattle.rule_checker.proofs.WrittenRuleLemmas.{IsCheckedTo, zip_map, checked-has_rules, HasSides, sides-of}
+use Rattle.rule_checker.specs.WrittenRules.{WrittenRule, numbers_behind}
+use Rattle.rule_checker.specs.WrittenMatch.{accepts_some_written, after_written_cond, written_match_from, written_match, MatchTheSame, AreOfClasses}
+use Rattle.rule_checker.proofs.WrittenConditionLemmas.{Checks, Walked}
+use Rattle.rule_checker.proofs.WrittenRuleLemmas.{HasSides}
 
 -- tests leave the number of variables
 long-if : (b : Bool) (bindings after : Bindings) → only_if b bindings ≡ Some after → length after ≡ length bindings

@@ -1,10 +1,8 @@
 -- The rules of a checked program are those of its forms: one form at a time.
-use Rattle.std.proofs.Common.{◌≡◌, ◌⊎◌, ℕ, ◌+◌, ◌≤◌, ◌<◌, inl, inr, Bool, true, false, cond, List, [], ◌∷◌, ◌++◌, Option, None, Some, Result, Ok, Err, is_some, length, nat_eq, slice_get, get_or, zero, suc, refl, sym, ap, ◌∙◌, subst, arith, append_assoc, append-nil}
-use Rattle.std.specs.List.{AllZip, position, position_from, flat_map}
+use Rattle.std.proofs.Common.{◌≡◌, ◌⊎◌, ℕ, ◌+◌, ◌≤◌, inl, inr, Bool, true, false, cond, List, [], ◌∷◌, ◌++◌, Option, None, Some, Result, Ok, is_some, length, nat_eq, slice_get, zero, suc, refl, sym, ap, ◌∙◌, subst, arith, append_assoc, append-nil}
+use Rattle.std.specs.List.{AllZip, position_from}
 use Rattle.std.proofs.lemmas.List.{map-append}
 use Rattle.std.proofs.lemmas.Iterator.Adapters.{position_from-zero}
-use Rattle.std.proofs.lemmas.Option.{slice_get_within}
-use Rattle.rule_base.specs.declared.value.Value.{Value}
 use Rattle.rule_base.specs.declared.program.Class.{Class}
 use Rattle.rule_base.specs.declared.program.Rule.{Rule}
 use Rattle.rule_base.specs.declared.program.Program.{Program}
@@ -25,16 +23,15 @@ use Rattle.rule_checker.specs.Forms.{at_form, after_forms}
 use Rattle.rule_checker.specs.Classes.{class_names, not_yet_declared, few_classes, with_attribute, with_class}
 use Rattle.rule_checker.specs.Makes.{make_of}
 use Rattle.rule_checker.specs.LeftSide.{no_conditions, left_side}
-use Rattle.rule_checker.specs.RightSide.{few_actions, make_action, modify_action, with_designator, with_plain_action, set_variable, with_bind, bind_action, after_action, with_action, right_side}
+use Rattle.rule_checker.specs.RightSide.{few_actions, make_action, modify_action, with_designator, with_plain_action, set_variable, with_bind, after_action, with_action, right_side}
 use Rattle.rule_checker.specs.Scope.{variable_of}
 use Rattle.rule_checker.specs.Terms.{term_of, with_item}
 use Rattle.rule_checker.specs.Rules.{new_rule_name, few_rules, rule_of, checked_rule, with_rule}
 use Rattle.rule_checker.specs.Checked.{with_form, no_program, checked}
 use Rattle.rule_checker.specs.WrittenRules.{WrittenRule, rule_in, written_rules, HasWrittenConditions}
-use Rattle.rule_checker.proofs.NumberLemmas.{number_in-within}
 use Rattle.rule_checker.proofs.ResultLemmas.{passed, kept, same_ok, after_each-keeps}
 use Rattle.rule_checker.proofs.CheckedLemmas.{at_form-passes}
-use Rattle.rule_checker.proofs.NamedLemmas.{same_numbers, IsNumbered}
+use Rattle.rule_checker.proofs.NamedLemmas.{same_numbers}
 use Rattle.rule_checker.proofs.LaterClassLemmas.{number_in-front, checked_rule-more}
 use Rattle.rule_checker.proofs.WrittenConditionLemmas.{AreNamedOnce, HasWalked, conds-walked, walked-ask}
 

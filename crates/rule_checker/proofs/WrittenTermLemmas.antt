@@ -1,5 +1,5 @@
 -- The values, settings and items that are checked give what the written ones give.
-use Rattle.std.proofs.Common.{◌≡◌, ℕ, ◌<◌, Bool, true, false, cond, List, [], ◌∷◌, ◌++◌, Option, None, Some, Result, Ok, Err, map, length, nat_eq, get_or, slice_set, zero, suc, refl, sym, ap, ◌∙◌, subst, arith, append_assoc, append-nil}
+use Rattle.std.proofs.Common.{◌≡◌, ℕ, ◌<◌, true, false, cond, List, [], ◌∷◌, ◌++◌, Some, Result, Ok, Err, map, length, nat_eq, get_or, slice_set, zero, suc, refl, sym, ap, ◌∙◌, subst, arith, append_assoc, append-nil}
 use Rattle.std.specs.List.{AllByRecursion, AllZip}
 use Rattle.std.proofs.lemmas.List.Quantifiers.{position-Some}
 use Rattle.rule_base.specs.declared.value.Value.{Value}
@@ -31,7 +31,6 @@ use Rattle.ops_reader.specs.declared.form.FormTerm.TheVariants as form_term
 use Rattle.ops_reader.specs.declared.form.FormItem.{FormItem}
 use Rattle.ops_reader.specs.declared.form.FormItem.TheVariants as form_item
 use Rattle.ops_reader.specs.FormTree.{form_leaf, form_tree, operand_leaf}
-use Rattle.rule_checker.specs.declared.refusal.CheckKind.{CheckKind}
 use Rattle.rule_checker.specs.declared.refusal.CheckKind.TheVariants.{UnknownAttribute, Unbound}
 use Rattle.rule_checker.specs.declared.scope.Scope.{Scope}
 use Rattle.rule_checker.specs.Names.{number_in}

@@ -1,19 +1,17 @@
 -- The tests that are made of written ones ask what those ask: one test at a time, and then tests in a row.
-use Rattle.std.proofs.Common.{◌≡◌, ℕ, ◌+◌, ◌≤◌, ◌<◌, Bool, true, false, List, [], ◌∷◌, ◌++◌, Option, None, Some, option_and_then, Result, Ok, length, nat_eq, slice_get, get_or, refl, sym, ap, ◌∙◌, subst, arith, append_assoc, append-nil, length-set}
+use Rattle.std.proofs.Common.{◌≡◌, ℕ, ◌+◌, ◌≤◌, ◌<◌, Bool, true, false, List, [], ◌∷◌, ◌++◌, Option, None, Some, option_and_then, Ok, length, slice_get, get_or, refl, sym, ap, ◌∙◌, subst, arith, append_assoc, append-nil, length-set}
 use Rattle.std.specs.List.{list_any, zip}
 use Rattle.std.proofs.lemmas.Option.{slice_get-get_or}
 use Rattle.rule_base.specs.declared.value.Value.{Value}
-use Rattle.rule_base.specs.declared.condition.Pred.{Pred}
 use Rattle.rule_base.specs.declared.condition.Pred.TheVariants.{Eq}
-use Rattle.rule_base.specs.declared.condition.Arg.{Arg}
 use Rattle.rule_base.specs.declared.condition.Arg.TheVariants as arg
 use Rattle.rule_base.specs.declared.condition.Test.{Test}
 use Rattle.rule_base.specs.declared.condition.Test.TheVariants as test
-use Rattle.rule_base.specs.Chains.{only_if, ◌>>=◌}
+use Rattle.rule_base.specs.Chains.{only_if}
 use Rattle.rule_base.specs.Value.{nil, same_value}
 use Rattle.rule_base.specs.Predicate.{holds}
 use Rattle.rule_base.specs.Bindings.{Bindings, bound}
-use Rattle.rule_base.specs.Acceptance.{compared_with, after_test, after_tests}
+use Rattle.rule_base.specs.Acceptance.{after_test, after_tests}
 use Rattle.ops_reader.specs.declared.form.FormArg.TheVariants as written
 use Rattle.ops_reader.specs.declared.form.Simple.{Simple}
 use Rattle.ops_reader.specs.declared.form.Simple.TheVariants as simple
@@ -24,8 +22,8 @@ use Rattle.rule_checker.specs.Names.{number_in}
 use Rattle.rule_checker.specs.Walk.{after_each}
 use Rattle.rule_checker.specs.Classes.{has_attribute}
 use Rattle.rule_checker.specs.Scope.{variable_of, bound_to_its_left, with_variable}
-use Rattle.rule_checker.specs.ConditionTests.{with_test, with_use, with_simple, with_tests, tests_of}
-use Rattle.rule_checker.specs.NamedBindings.{NamedValues, value_named, naming, SayTheSame, AgreeOn}
+use Rattle.rule_checker.specs.ConditionTests.{with_test, with_use, with_simple, with_tests}
+use Rattle.rule_checker.specs.NamedBindings.{NamedValues, value_named, SayTheSame}
 use Rattle.rule_checker.specs.WrittenTests.{after_use, after_written, after_braces}
 use Rattle.rule_checker.specs.WrittenConditions.{after_attribute, after_attributes}
 use Rattle.rule_checker.proofs.NumberLemmas.{number_in-within}

@@ -30,4 +30,5 @@ pub mod WrittenLaws
 -- what the code keeps
 pub mod Kept
 -- worked rows
+pub mod Meanings
 pub mod Rows

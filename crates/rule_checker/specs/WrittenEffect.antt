@@ -15,7 +15,6 @@ use Rattle.rule_base.specs.Memory.{Memory, elements_at}
 use Rattle.rule_base.specs.Match.{match_of}
 use Rattle.rule_base.specs.Effect.{Effect, Failure, is_gone, of_action, effect}
 use Rattle.ops_reader.specs.declared.form.FormTerm.{FormTerm}
-use Rattle.ops_reader.specs.declared.form.At.{At}
 use Rattle.ops_reader.specs.declared.form.FormCond.{FormCond}
 use Rattle.ops_reader.specs.declared.form.FormAction.{FormAction}
 use Rattle.ops_reader.specs.declared.form.FormAction.TheVariants as form_action

@@ -2,6 +2,7 @@
 
 ghost use Rattle.rule_checker.specs.Laws.{CheckedAreSound, CheckedDeclareAll, ViolationsAreFirst, FrontDecides, ProgramKinds, MemoryFileKinds};
 ghost use Rattle.rule_checker.specs.WrittenLaws.{RulesMeanWhatIsWritten};
+ghost use Rattle.rule_checker.specs.Meanings.{AreTestMeanings, AreMatchMeanings, AreActionMeanings};
 ghost use Rattle.rule_checker.specs.Rows.Programs.{ArePrograms};
 ghost use Rattle.rule_checker.specs.Rows.Violations.{AreDeclarationViolations, AreConditionViolations, AreActionViolations};
 ghost use Rattle.rule_checker.specs.Rows.Openings.{AreOpenings};
@@ -53,4 +54,11 @@ pub fn violations_are_of_these_kinds()
 /// writes the same. What is written is said over names and values alone.
 pub fn rules_mean_what_is_written()
     ensures { RulesMeanWhatIsWritten }
+{}
+
+/// What short rules mean as they are written.
+pub fn meanings()
+    ensures tests { AreTestMeanings }
+    ensures matches { AreMatchMeanings }
+    ensures actions { AreActionMeanings }
 {}
