@@ -29,3 +29,4 @@ pub mod WrittenTermLemmas
 pub mod DesignatorLemmas
 pub mod WrittenEffectLemmas
 pub mod WrittenLemmas
+pub mod WrittenMakeLemmas

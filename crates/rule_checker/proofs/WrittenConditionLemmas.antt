@@ -30,7 +30,7 @@ use Rattle.rule_checker.specs.ConditionTests.{tests_of}
 use Rattle.rule_checker.specs.LeftSide.{few_conditions, first_is_positive, elements_after, with_pattern, with_cond}
 use Rattle.rule_checker.specs.NamedBindings.{NamedValues, AgreeOn}
 use Rattle.rule_checker.specs.WrittenConditions.{after_attributes, attributes_in, accepts_written}
-use Rattle.rule_checker.specs.WrittenRules.{AsksWhatIsWritten, numbers_behind, AskWhatIsWritten}
+use Rattle.rule_checker.specs.WrittenRules.{AsksWhatIsWritten, numbers_behind, AllAskWhatIsWritten}
 use Rattle.rule_checker.proofs.ResultLemmas.{passed, found, same_ok}
 use Rattle.rule_checker.proofs.NamedLemmas.{equal_numbers, IsNumbered}
 use Rattle.rule_checker.proofs.WrittenTestLemmas.{Agrees, attributes-go}
@@ -264,9 +264,9 @@ conds-walked classes vars left (w ∷ ws) last once none numbered room e =
     }
 
 -- so they ask what is written
-pub walked-ask : (classes : List Class) (vars : ℕ) (left : LeftSide) (ws : List FormCond) (cs : List Cond) (last : LeftSide) → Walked classes vars left ws cs last → AskWhatIsWritten classes vars (variable_of left.scope) ws cs
+pub walked-ask : (classes : List Class) (vars : ℕ) (left : LeftSide) (ws : List FormCond) (cs : List Cond) (last : LeftSide) → Walked classes vars left ws cs last → AllAskWhatIsWritten classes vars (variable_of left.scope) ws cs
 walked-ask classes vars left [] [] last h = tt
 walked-ask classes vars left [] (c ∷ cs) last h = h
 walked-ask classes vars left (w ∷ ws) [] last h = h
 walked-ask classes vars left (w ∷ ws) (c ∷ cs) last h =
-    (h.1.inside, h.1.asks, subst (λ (front : ℕ → Option ℕ). AskWhatIsWritten classes vars front ws cs) h.1.numbers (walked-ask classes vars h.0 ws cs last h.2))
+    (h.1.inside, h.1.asks, subst (λ (front : ℕ → Option ℕ). AllAskWhatIsWritten classes vars front ws cs) h.1.numbers (walked-ask classes vars h.0 ws cs last h.2))

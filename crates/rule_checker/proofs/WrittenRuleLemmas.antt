@@ -51,7 +51,7 @@ zip_map P Q f [] (y ∷ ys) h = h
 zip_map P Q f (x ∷ xs) [] h = h
 zip_map P Q f (x ∷ xs) (y ∷ ys) h = (f x y h.0, zip_map P Q f xs ys h.1)
 
-zip_push : {A B : Type 0} (P : A → B → Type 0) (xs : List A) (ys : List B) (a : A) (b : B) → AllZip P xs ys → P a b → AllZip P (xs ++ a ∷ []) (ys ++ b ∷ [])
+pub zip_push : {A B : Type 0} (P : A → B → Type 0) (xs : List A) (ys : List B) (a : A) (b : B) → AllZip P xs ys → P a b → AllZip P (xs ++ a ∷ []) (ys ++ b ∷ [])
 zip_push P [] [] a b h last = (last, tt)
 zip_push P [] (y ∷ ys) a b h last = absurd h
 zip_push P (x ∷ xs) [] a b h last = absurd h

@@ -106,7 +106,7 @@ set-found name (n ∷ names) (x ∷ values) (suc i) v within passes earlier =
     ap (λ vs. x ∷ vs) (set-found name names values i v (omega arith) passes (λ k below. earlier (suc k) (omega arith)))
     ∙ ap (λ b. cond b (v ∷ values) (x ∷ with_attribute_set names name v values)) (sym first)
 
-set-named : (name : ℕ) (names : List ℕ) (values : List Value) (i : ℕ) (v : Value) → number_in names name ≡ Some i → slice_set values i v ≡ with_attribute_set names name v values
+pub set-named : (name : ℕ) (names : List ℕ) (values : List Value) (i : ℕ) (v : Value) → number_in names name ≡ Some i → slice_set values i v ≡ with_attribute_set names name v values
 set-named name names values i v is =
     let place = position-Some (nat_eq name) names i 0 is in
     set-found name names values i v place.0 place.1 place.2

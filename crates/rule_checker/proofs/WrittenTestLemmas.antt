@@ -24,7 +24,7 @@ use Rattle.rule_checker.specs.Classes.{has_attribute}
 use Rattle.rule_checker.specs.Scope.{variable_of, bound_to_its_left, with_variable}
 use Rattle.rule_checker.specs.ConditionTests.{with_test, with_use, with_simple, with_tests}
 use Rattle.rule_checker.specs.NamedBindings.{NamedValues, value_named, SayTheSame}
-use Rattle.rule_checker.specs.WrittenTests.{after_use, after_written, after_braces}
+use Rattle.rule_checker.specs.WrittenTests.{after_use, after_written_test, after_braces}
 use Rattle.rule_checker.specs.WrittenConditions.{after_attribute, after_attributes}
 use Rattle.rule_checker.proofs.NumberLemmas.{number_in-within}
 use Rattle.rule_checker.proofs.ResultLemmas.{passed, found, same_ok}
@@ -158,7 +158,7 @@ use-goes vars negated values done attr name v (Some var) numbered at is =
 
 -- one written test
 simple-goes : (vars : ℕ) (negated : Bool) (values : List Value) (attr : ℕ) (v : Value) → slice_get values attr ≡ Some v → (done : TestsSoFar) (s : Simple) (next : TestsSoFar) → IsNumbered done.scope
-    → with_simple negated attr done s ≡ Ok next → Goes vars negated values done next (λ named. after_written s named v)
+    → with_simple negated attr done s ≡ Ok next → Goes vars negated values done next (λ named. after_written_test s named v)
 simple-goes vars negated values attr v at done (simple.Plain (written.Con other)) next numbered e =
     subst (λ (t : TestsSoFar). Goes vars negated values done t (λ named. only_if (same_value v other) named)) (same_ok e)
     (plain-goes vars negated values done (test.Cmp attr Eq (arg.Con other)) (λ named. only_if (same_value v other) named) numbered
@@ -191,7 +191,7 @@ braces-go vars negated values attr v at done [] next numbered e =
 braces-go vars negated values attr v at done (s ∷ ss) next numbered e =
     let w = passed (with_simple negated attr done s) (λ mid. after_each (with_simple negated attr) mid ss) next e in
     let first = simple-goes vars negated values attr v at done s w.0 numbered w.1 in
-    goes-on vars negated values done w.0 next (λ named. after_written s named v) (λ named. after_braces ss named v) first (braces-go vars negated values attr v at w.0 ss next first.numbered w.2)
+    goes-on vars negated values done w.0 next (λ named. after_written_test s named v) (λ named. after_braces ss named v) first (braces-go vars negated values attr v at w.0 ss next first.numbered w.2)
 
 -- the tests of one attribute
 attribute-goes : (vars : ℕ) (negated : Bool) (attrs : List ℕ) (values : List Value) → length attrs ≡ length values → (done : TestsSoFar) (w : ℕ × List Simple) (next : TestsSoFar) → IsNumbered done.scope

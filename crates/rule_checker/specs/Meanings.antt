@@ -21,7 +21,6 @@ use Rattle.ops_reader.specs.declared.form.FormAction.TheVariants as action
 use Rattle.rule_checker.specs.Rows.Written.{uses, positive, negated, named_e, bind, modify_e}
 use Rattle.rule_checker.specs.NamedBindings.{NamedValues}
 use Rattle.rule_checker.specs.WrittenConditions.{accepts_written}
-use Rattle.rule_checker.specs.WrittenRules.{WrittenRule}
 use Rattle.rule_checker.specs.WrittenMatch.{written_match}
 use Rattle.rule_checker.specs.WrittenEffect.{written_effect}
 

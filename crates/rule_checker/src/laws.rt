@@ -1,7 +1,7 @@
 //! Laws of the definitions. Each function here does nothing: its contract is the law.
 
 ghost use Rattle.rule_checker.specs.Laws.{CheckedAreSound, CheckedDeclareAll, ViolationsAreFirst, FrontDecides, ProgramKinds, MemoryFileKinds};
-ghost use Rattle.rule_checker.specs.WrittenLaws.{RulesMeanWhatIsWritten};
+ghost use Rattle.rule_checker.specs.WrittenLaws.{RulesMeanWhatIsWritten, MakesAreWritten, OpeningsAreWritten};
 ghost use Rattle.rule_checker.specs.Meanings.{AreTestMeanings, AreMatchMeanings, AreActionMeanings};
 ghost use Rattle.rule_checker.specs.Rows.Programs.{ArePrograms};
 ghost use Rattle.rule_checker.specs.Rows.Violations.{AreDeclarationViolations, AreConditionViolations, AreActionViolations};
@@ -54,6 +54,13 @@ pub fn violations_are_of_these_kinds()
 /// writes the same. What is written is said over names and values alone.
 pub fn rules_mean_what_is_written()
     ensures { RulesMeanWhatIsWritten }
+{}
+
+/// The makes of a checked program are those of its forms, and its opening memory has what they and those of
+/// the memory file make, in their order, with the attributes that are written.
+pub fn makes_mean_what_is_written()
+    ensures makes { MakesAreWritten }
+    ensures opening { OpeningsAreWritten }
 {}
 
 /// What short rules mean as they are written.
