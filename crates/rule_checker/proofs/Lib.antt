@@ -30,3 +30,4 @@ pub mod DesignatorLemmas
 pub mod WrittenEffectLemmas
 pub mod WrittenLemmas
 pub mod WrittenMakeLemmas
+pub mod WrittenFiringLemmas

@@ -26,6 +26,7 @@ pub mod WrittenMatch
 pub mod WrittenTerms
 pub mod Designators
 pub mod WrittenEffect
+pub mod WrittenFirings
 pub mod WrittenMakes
 pub mod WrittenLaws
 -- what the code keeps

@@ -11,6 +11,7 @@ use Rattle.rule_checker.specs.Opening.{opening_list}
 use Rattle.rule_checker.specs.WrittenRules.{WrittenRule, written_rules, HasWrittenConditions}
 use Rattle.rule_checker.specs.WrittenMatch.{HasWrittenMatch}
 use Rattle.rule_checker.specs.WrittenEffect.{HasWrittenEffect}
+use Rattle.rule_checker.specs.WrittenFirings.{FiresWhatIsWritten}
 use Rattle.rule_checker.specs.WrittenMakes.{written_makes, IsWrittenMake, AreWrittenElements}
 
 -- a rule of a program with these classes means what is written
@@ -27,6 +28,10 @@ pub record MeansWhatIsWritten (classes : List Class) (written : WrittenRule) (ru
 abbrev pub RulesMeanWhatIsWritten : Type 0
 RulesMeanWhatIsWritten = (forms : List Form) (program : Program) → checked forms ≡ Ok program
     → AllZip (MeansWhatIsWritten program.classes) (written_rules forms) program.rules
+
+-- in every memory for its classes the choices of a checked program match and act as its forms say
+abbrev pub ChoicesFireWhatIsWritten : Type 0
+ChoicesFireWhatIsWritten = (forms : List Form) (program : Program) → checked forms ≡ Ok program → FiresWhatIsWritten (written_rules forms) program
 
 -- the makes of a checked program are those of its forms, in their order
 abbrev pub MakesAreWritten : Type 0

@@ -1,7 +1,7 @@
 //! Laws of the definitions. Each function here does nothing: its contract is the law.
 
 ghost use Rattle.rule_checker.specs.Laws.{CheckedAreSound, CheckedDeclareAll, ViolationsAreFirst, FrontDecides, ProgramKinds, MemoryFileKinds};
-ghost use Rattle.rule_checker.specs.WrittenLaws.{RulesMeanWhatIsWritten, MakesAreWritten, OpeningsAreWritten};
+ghost use Rattle.rule_checker.specs.WrittenLaws.{RulesMeanWhatIsWritten, ChoicesFireWhatIsWritten, MakesAreWritten, OpeningsAreWritten};
 ghost use Rattle.rule_checker.specs.Meanings.{AreTestMeanings, AreMatchMeanings, AreActionMeanings};
 ghost use Rattle.rule_checker.specs.Rows.Programs.{ArePrograms};
 ghost use Rattle.rule_checker.specs.Rows.Violations.{AreDeclarationViolations, AreConditionViolations, AreActionViolations};
@@ -51,9 +51,11 @@ pub fn violations_are_of_these_kinds()
 
 /// The rules of a checked program are those of its forms, in their order, and each means what is written:
 /// its condition elements accept the same elements, it matches with the same tags, and it changes and
-/// writes the same. What is written is said over names and values alone.
+/// writes the same. What is written is said over names and values alone. So the choices that match are those
+/// of the text in every memory, and what they do is what it says.
 pub fn rules_mean_what_is_written()
-    ensures { RulesMeanWhatIsWritten }
+    ensures rules { RulesMeanWhatIsWritten }
+    ensures choices { ChoicesFireWhatIsWritten }
 {}
 
 /// The makes of a checked program are those of its forms, and its opening memory has what they and those of
