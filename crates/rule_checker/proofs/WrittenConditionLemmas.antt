@@ -92,11 +92,11 @@ agree-only scope vars (Some bindings) None h = h
 agree-only scope vars (Some bindings) (Some named) h = h.1
 
 -- what a condition element accepts, and what the written one does
-accepts-agree : (classes : List Class) (vars class : ℕ) (before : Scope) (w : FormCond) (done : TestsSoFar) (e : Element) (bindings : Bindings) (named : NamedValues) → AreNamedOnce classes
+accepts-agree : (classes : List Class) (vars class : ℕ) (w : FormCond) (done : TestsSoFar) (e : Element) (bindings : Bindings) (named : NamedValues) → AreNamedOnce classes
     → declared_class classes w.class ≡ Ok class → IsOf classes e.class (length e.values)
     → ((c : Class) → attributes_at classes class ≡ c.attrs → length c.attrs ≡ length e.values → Agrees done.scope vars (after_tests done.tests bindings e.values) (after_attributes w.tests named (zip c.attrs e.values)))
     → AgreeOn (variable_of done.scope) (accepts (record { negated = w.negated; class = class; tests = done.tests }) bindings e) (accepts_written classes w named e)
-accepts-agree classes vars class before w done e bindings named once declared of tests_agree = by (class == e.class) refl
+accepts-agree classes vars class w done e bindings named once declared of tests_agree = by (class == e.class) refl
   where
     number : number_in (class_names classes) w.class ≡ Some class
     number = found (number_in (class_names classes) w.class) UnknownClass class declared
@@ -198,7 +198,7 @@ pattern-checks classes vars class left w next once none numbered room declared p
       asks = record {
         sign = refl;
         same = λ e bindings named sized size same.
-            accepts-agree classes vars class left.scope w p.done e bindings named once declared (class-of classes e.class (length e.values) sized) (λ c attrs_are long.
+            accepts-agree classes vars class w p.done e bindings named once declared (class-of classes e.class (length e.values) sized) (λ c attrs_are long.
             let go = walk e.values (ap length attrs_are ∙ long) in
             let agree = go.agree bindings named size within same in
             let by_number : Agrees p.done.scope vars (after_tests p.done.tests bindings e.values) (after_attributes w.tests named (zip attrs e.values)) =

@@ -51,7 +51,7 @@ pub record Goes (vars : ℕ) (negated : Bool) (values : List Value) (done next :
       → Agrees next.scope vars (after_tests tests bindings values) (asks named)
 
 -- tests in a row
-pub after_tests-append : (xs ys : List Test) (bindings : Bindings) (values : List Value) → after_tests (xs ++ ys) bindings values ≡ option_and_then (λ after. after_tests ys after values) (after_tests xs bindings values)
+after_tests-append : (xs ys : List Test) (bindings : Bindings) (values : List Value) → after_tests (xs ++ ys) bindings values ≡ option_and_then (λ after. after_tests ys after values) (after_tests xs bindings values)
 after_tests-append [] ys bindings values = refl
 after_tests-append (x ∷ xs) ys bindings values = by (after_test x bindings values) (λ after. after_tests-append xs ys after values)
   where
@@ -60,7 +60,7 @@ after_tests-append (x ∷ xs) ys bindings values = by (after_test x bindings val
     by None rest = refl
     by (Some after) rest = rest after
 
-pub goes-nowhere : (vars : ℕ) (negated : Bool) (values : List Value) (done : TestsSoFar) → IsNumbered done.scope → Goes vars negated values done done (λ named. Some named)
+goes-nowhere : (vars : ℕ) (negated : Bool) (values : List Value) (done : TestsSoFar) → IsNumbered done.scope → Goes vars negated values done done (λ named. Some named)
 goes-nowhere vars negated values done numbered = record {
   tests = [];
   more = sym (append-nil done.tests);
@@ -80,7 +80,7 @@ agree-then mid last vars None (Some named) f g next h = absurd h
 agree-then mid last vars (Some bindings) None f g next h = absurd h
 agree-then mid last vars (Some bindings) (Some named) f g next h = next bindings named h.0 h.1
 
-pub goes-on : (vars : ℕ) (negated : Bool) (values : List Value) (done mid next : TestsSoFar) (f g : NamedValues → Option NamedValues) → Goes vars negated values done mid f → Goes vars negated values mid next g
+goes-on : (vars : ℕ) (negated : Bool) (values : List Value) (done mid next : TestsSoFar) (f g : NamedValues → Option NamedValues) → Goes vars negated values done mid f → Goes vars negated values mid next g
     → Goes vars negated values done next (λ named. option_and_then g (f named))
 goes-on vars negated values done mid next f g first second = record {
   tests = first.tests ++ second.tests;
