@@ -1,11 +1,10 @@
 -- Classes that are declared later don't matter to a rule: it is checked to the same.
-use Rattle.std.proofs.Common.{◌≡◌, ℕ, ◌+◌, ◌≤◌, ◌<◌, Bool, true, false, cond, List, [], ◌∷◌, ◌++◌, Option, None, Some, Result, Ok, Err, is_some, length, nat_eq, slice_get, get_or, zero, suc, refl, sym, ap, ◌∙◌, subst, arith}
+use Rattle.std.proofs.Common.{◌≡◌, ℕ, ◌+◌, ◌<◌, Bool, true, false, cond, List, [], ◌∷◌, ◌++◌, Option, None, Some, Result, Ok, length, nat_eq, slice_get, get_or, refl, sym, ap, ◌∙◌, subst, arith}
 use Rattle.std.specs.Option.{option_map_or}
-use Rattle.std.specs.List.{AllByRecursion, position, position_from}
+use Rattle.std.specs.List.{AllByRecursion, position_from}
 use Rattle.std.proofs.lemmas.List.{map-append, length-map}
 use Rattle.std.proofs.lemmas.Iterator.Adapters.{position_from-zero}
 use Rattle.std.proofs.lemmas.Option.{slice_get-get_or}
-use Rattle.rule_base.specs.declared.action.Term.{Term}
 use Rattle.rule_base.specs.declared.action.Action.{Action}
 use Rattle.rule_base.specs.declared.action.Action.TheVariants as action
 use Rattle.rule_base.specs.declared.program.Class.{Class}
@@ -31,7 +30,7 @@ use Rattle.rule_checker.specs.RightSide.{few_actions, known_designator, with_set
 use Rattle.rule_checker.specs.Rules.{rule_of, checked_rule}
 use Rattle.rule_checker.proofs.ListLemmas.{all_map, all_get, slice_get-front}
 use Rattle.rule_checker.proofs.NumberLemmas.{number_in-within}
-use Rattle.rule_checker.proofs.ResultLemmas.{passed, found, same_ok}
+use Rattle.rule_checker.proofs.ResultLemmas.{passed, found}
 use Rattle.rule_checker.proofs.ClassLemmas.{positive_classes-within}
 use Rattle.rule_checker.proofs.LeftSideLemmas.{left_side-sound}
 

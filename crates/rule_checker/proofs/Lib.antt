@@ -25,3 +25,9 @@ pub mod WrittenConditionLemmas
 pub mod LaterClassLemmas
 pub mod WrittenRuleLemmas
 pub mod WrittenMatchLemmas
+pub mod WrittenTermLemmas
+pub mod DesignatorLemmas
+pub mod WrittenEffectLemmas
+pub mod WrittenLemmas
+pub mod WrittenMakeLemmas
+pub mod WrittenFiringLemmas

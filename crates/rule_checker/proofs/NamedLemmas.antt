@@ -1,5 +1,5 @@
 -- How the variables of a scope are found by their names, and what one variable more leaves as it was.
-use Rattle.std.proofs.Common.{◌≡◌, ◌≢◌, ℕ, ◌+◌, ◌≤◌, ◌<◌, Bool, true, false, cond, List, [], ◌∷◌, ◌++◌, Option, None, Some, is_some, length, nat_eq, slice_get, slice_set, get_or, zero, suc, refl, sym, ap, ◌∙◌, subst, arith}
+use Rattle.std.proofs.Common.{◌≡◌, ◌≢◌, ◌⊎◌, inl, inr, ℕ, ◌+◌, ◌<◌, Bool, true, false, cond, List, [], ◌∷◌, ◌++◌, Option, None, Some, is_some, length, nat_eq, slice_get, slice_set, get_or, zero, suc, refl, sym, ap, ◌∙◌, arith}
 use Rattle.std.specs.Option.{option_or, option_flatten}
 use Rattle.std.specs.List.{zip}
 use Rattle.std.specs.Map.{lookup}
@@ -89,19 +89,38 @@ variable_of-other false scope key name differs =
     ∙ ap (λ b. option_or (number_of scope.bound name) (cond b (Some scope.vars) None)) differs
     ∙ or_none (number_of scope.bound name))
 
--- the numbers of variables are below their count
+-- the numbers of variables are below their count, and no two names have the same
 pub record IsNumbered (scope : Scope) : Type 0 where
   pub below : (name var : ℕ) → variable_of scope name ≡ Some var → var < scope.vars
+  pub apart : (first second var : ℕ) → variable_of scope first ≡ Some var → variable_of scope second ≡ Some var → first ≡ second
+
+-- a name in a scope with one variable more: it is the new one, which has the next number, or it was there
+name-in : (negated : Bool) (scope : Scope) (key name var : ℕ) → variable_of scope key ≡ None → variable_of (with_variable negated scope key) name ≡ Some var
+    → ((name ≡ key) × (var ≡ scope.vars)) ⊎ (variable_of scope name ≡ Some var)
+name-in negated scope key name var none is = by (nat_eq name key) refl
+  where
+    by : (b : Bool) → nat_eq name key ≡ b → ((name ≡ key) × (var ≡ scope.vars)) ⊎ (variable_of scope name ≡ Some var)
+    by true same =
+        let here : variable_of (with_variable negated scope key) name ≡ Some scope.vars = ap (variable_of (with_variable negated scope key)) (equal_numbers name key same) ∙ variable_of-new negated scope key none in
+        let number : var ≡ scope.vars = cc in
+        inl (equal_numbers name key same, number)
+    by false differs = inr (sym (variable_of-other negated scope key name differs) ∙ is)
 
 pub IsNumbered-more : (negated : Bool) (scope : Scope) (key : ℕ) (more : ℕ) → (with_variable negated scope key).vars ≡ more → more ≡ scope.vars + 1 → variable_of scope key ≡ None → IsNumbered scope → IsNumbered (with_variable negated scope key)
-IsNumbered-more negated scope key more count next none h = record { below = λ name var is. by name var is (nat_eq name key) refl }
+IsNumbered-more negated scope key more count next none h = record {
+  below = λ name var is. below name var (name-in negated scope key name var none is);
+  apart = λ first second var is also. apart first second var (name-in negated scope key first var none is) (name-in negated scope key second var none also);
+}
   where
-    by : (name var : ℕ) → variable_of (with_variable negated scope key) name ≡ Some var → (b : Bool) → nat_eq name key ≡ b → var < (with_variable negated scope key).vars
-    by name var is true same =
-        let here : variable_of (with_variable negated scope key) name ≡ Some scope.vars = ap (variable_of (with_variable negated scope key)) (equal_numbers name key same) ∙ variable_of-new negated scope key none in
-        let number : scope.vars ≡ var = cc in
-        omega (arith, number, count, next)
-    by name var is false differs = omega (arith, h.below name var (sym (variable_of-other negated scope key name differs) ∙ is), count, next)
+    below : (name var : ℕ) → ((name ≡ key) × (var ≡ scope.vars)) ⊎ (variable_of scope name ≡ Some var) → var < (with_variable negated scope key).vars
+    below name var (inl new) = omega (arith, new.1, count, next)
+    below name var (inr there) = omega (arith, h.below name var there, count, next)
+
+    apart : (first second var : ℕ) → ((first ≡ key) × (var ≡ scope.vars)) ⊎ (variable_of scope first ≡ Some var) → ((second ≡ key) × (var ≡ scope.vars)) ⊎ (variable_of scope second ≡ Some var) → first ≡ second
+    apart first second var (inl new) (inl also) = new.0 ∙ sym also.0
+    apart first second var (inl new) (inr there) = absurd (omega (arith, new.1, h.below second var there))
+    apart first second var (inr there) (inl new) = absurd (omega (arith, new.1, h.below first var there))
+    apart first second var (inr there) (inr also) = h.apart first second var there also
 
 -- a variable that gets a value, by its number and by its name
 pub SayTheSame-naming : (negated : Bool) (scope : Scope) (key : ℕ) (bindings : Bindings) (named : NamedValues) (value : Value) → variable_of scope key ≡ None → IsNumbered scope → scope.vars < length bindings
@@ -122,6 +141,28 @@ SayTheSame-naming negated scope key bindings named value none numbered within h 
         let there : variable_of scope name ≡ Some var = sym (variable_of-other negated scope key name differs) ∙ is in
         let below = numbered.below name var there in
         ap option_flatten (slice_get-set_other bindings scope.vars var (Some value) (omega (arith, below))) ∙ h.same name var there
+
+-- a variable that gets another value
+pub SayTheSame-again : (scope : Scope) (key var : ℕ) (bindings : Bindings) (named : NamedValues) (value : Value) → variable_of scope key ≡ Some var → IsNumbered scope → var < length bindings
+    → SayTheSame (variable_of scope) bindings named → SayTheSame (variable_of scope) (bound bindings var value) (naming named key value)
+SayTheSame-again scope key var bindings named value is numbered within h = record { valued = λ name. with_value name (nat_eq name key) refl; same = λ name other there. with_same name other there (nat_eq name key) refl }
+  where
+    with_value : (name : ℕ) (b : Bool) → nat_eq name key ≡ b → is_some (cond b (Some value) (value_named named name)) ≡ is_some (variable_of scope name)
+    with_value name true same = sym (ap is_some (ap (variable_of scope) (equal_numbers name key same) ∙ is))
+    with_value name false differs = h.valued name
+
+    with_same : (name other : ℕ) → variable_of scope name ≡ Some other → (b : Bool) → nat_eq name key ≡ b → binding_of (bound bindings var value) other ≡ cond b (Some value) (value_named named name)
+    with_same name other there true same =
+        let here : variable_of scope name ≡ Some var = ap (variable_of scope) (equal_numbers name key same) ∙ is in
+        let number : var ≡ other = cc in
+        ap (binding_of (bound bindings var value)) (sym number) ∙ ap option_flatten (slice_get-set bindings var (Some value) within)
+    with_same name other there false differs =
+        let elsewhere = λ (equal : other ≡ var).
+        let also : variable_of scope name ≡ Some var = there ∙ ap Some equal in
+        let wrong = sym differs ∙ same_numbers name key (numbered.apart name key var also is) in
+        let no : ⊥ = cc in
+        no in
+        ap option_flatten (slice_get-set_other bindings var other (Some value) elsewhere) ∙ h.same name other there
 
 -- a name with a number has a value, and both bindings have it
 pub record HasValue (bindings : Bindings) (named : NamedValues) (name var : ℕ) : Type 0 where

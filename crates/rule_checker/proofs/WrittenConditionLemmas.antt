@@ -1,5 +1,5 @@
 -- The condition elements of a rule ask what is written: one at a time, and then from left to right.
-use Rattle.std.proofs.Common.{◌≡◌, ℕ, ◌+◌, ◌≤◌, ◌<◌, Bool, true, false, ◌==◌, List, [], ◌∷◌, ◌++◌, Option, None, Some, option_map, option_and_then, Result, Ok, length, map, nat_eq, replicate, slice_get, get_or, refl, sym, ap, ◌∙◌, subst, arith, rules, tests, append_assoc, append-nil}
+use Rattle.std.proofs.Common.{◌≡◌, ℕ, ◌≤◌, Bool, true, false, ◌==◌, List, [], ◌∷◌, ◌++◌, Option, None, Some, option_map, option_and_then, Ok, length, nat_eq, replicate, slice_get, get_or, refl, sym, ap, ◌∙◌, subst, arith, append_assoc, append-nil}
 use Rattle.std.specs.Option.{option_map_or, option_or}
 use Rattle.std.specs.List.{zip}
 use Rattle.std.proofs.lemmas.List.Quantifiers.{position-Some}
@@ -14,7 +14,6 @@ use Rattle.rule_base.specs.declared.condition.Cond.{Cond}
 use Rattle.rule_base.specs.declared.program.Class.{Class}
 use Rattle.rule_base.specs.Chains.{only_if, ◌>>=◌}
 use Rattle.rule_base.specs.Bindings.{Bindings}
-use Rattle.rule_base.specs.Memory.{HasSize}
 use Rattle.rule_base.specs.Acceptance.{accepts, after_tests}
 use Rattle.rule_base.specs.Sound.{sizes_of}
 use Rattle.ops_reader.specs.declared.form.FormCond.{FormCond}
@@ -29,12 +28,12 @@ use Rattle.rule_checker.specs.Classes.{class_names, declared_class, attributes_a
 use Rattle.rule_checker.specs.Scope.{variable_of, behind}
 use Rattle.rule_checker.specs.ConditionTests.{tests_of}
 use Rattle.rule_checker.specs.LeftSide.{few_conditions, first_is_positive, elements_after, with_pattern, with_cond}
-use Rattle.rule_checker.specs.NamedBindings.{NamedValues, SayTheSame, AgreeOn}
-use Rattle.rule_checker.specs.WrittenConditions.{after_attributes, attributes_in, accepts_values, accepts_written}
-use Rattle.rule_checker.specs.WrittenRules.{AsksWhatIsWritten, numbers_behind, AskWhatIsWritten}
+use Rattle.rule_checker.specs.NamedBindings.{NamedValues, AgreeOn}
+use Rattle.rule_checker.specs.WrittenConditions.{after_attributes, attributes_in, accepts_written}
+use Rattle.rule_checker.specs.WrittenRules.{AsksWhatIsWritten, numbers_behind, AllAskWhatIsWritten}
 use Rattle.rule_checker.proofs.ResultLemmas.{passed, found, same_ok}
 use Rattle.rule_checker.proofs.NamedLemmas.{equal_numbers, IsNumbered}
-use Rattle.rule_checker.proofs.WrittenTestLemmas.{Agrees, Goes, attributes-go}
+use Rattle.rule_checker.proofs.WrittenTestLemmas.{Agrees, attributes-go}
 
 -- each class is found by its name
 pub record AreNamedOnce (classes : List Class) : Type 0 where
@@ -93,11 +92,11 @@ agree-only scope vars (Some bindings) None h = h
 agree-only scope vars (Some bindings) (Some named) h = h.1
 
 -- what a condition element accepts, and what the written one does
-accepts-agree : (classes : List Class) (vars class : ℕ) (before : Scope) (w : FormCond) (done : TestsSoFar) (e : Element) (bindings : Bindings) (named : NamedValues) → AreNamedOnce classes
+accepts-agree : (classes : List Class) (vars class : ℕ) (w : FormCond) (done : TestsSoFar) (e : Element) (bindings : Bindings) (named : NamedValues) → AreNamedOnce classes
     → declared_class classes w.class ≡ Ok class → IsOf classes e.class (length e.values)
     → ((c : Class) → attributes_at classes class ≡ c.attrs → length c.attrs ≡ length e.values → Agrees done.scope vars (after_tests done.tests bindings e.values) (after_attributes w.tests named (zip c.attrs e.values)))
     → AgreeOn (variable_of done.scope) (accepts (record { negated = w.negated; class = class; tests = done.tests }) bindings e) (accepts_written classes w named e)
-accepts-agree classes vars class before w done e bindings named once declared of tests_agree = by (class == e.class) refl
+accepts-agree classes vars class w done e bindings named once declared of tests_agree = by (class == e.class) refl
   where
     number : number_in (class_names classes) w.class ≡ Some class
     number = found (number_in (class_names classes) w.class) UnknownClass class declared
@@ -151,15 +150,19 @@ numbers-behind false before done none outside inside =
 
 numbered-behind : (negated : Bool) (before done : Scope) → variable_of (behind done) ≡ numbers_behind negated (variable_of before) (variable_of done) → before.vars ≤ done.vars → IsNumbered before → IsNumbered done → IsNumbered (behind done)
 numbered-behind true before done same grown front inside = record {
-  below = λ name var is.
-      let there : variable_of before name ≡ Some var = sym (ap (λ (f : ℕ → Option ℕ). f name) same) ∙ is in
-      omega (arith, front.below name var there, grown);
+  below = λ name var is. omega (arith, front.below name var (there name var is), grown);
+  apart = λ first second var is also. front.apart first second var (there first var is) (there second var also);
 }
+  where
+    there : (name var : ℕ) → variable_of (behind done) name ≡ Some var → variable_of before name ≡ Some var
+    there name var is = sym (ap (λ (f : ℕ → Option ℕ). f name) same) ∙ is
 numbered-behind false before done same grown front inside = record {
-  below = λ name var is.
-      let there : variable_of done name ≡ Some var = sym (ap (λ (f : ℕ → Option ℕ). f name) same) ∙ is in
-      inside.below name var there;
+  below = λ name var is. inside.below name var (there name var is);
+  apart = λ first second var is also. inside.apart first second var (there first var is) (there second var also);
 }
+  where
+    there : (name var : ℕ) → variable_of (behind done) name ≡ Some var → variable_of done name ≡ Some var
+    there name var is = sym (ap (λ (f : ℕ → Option ℕ). f name) same) ∙ is
 
 -- a condition element with its pattern
 pub record HasPattern (class : ℕ) (attrs : List ℕ) (left : LeftSide) (w : FormCond) (next : LeftSide) : Type 0 where
@@ -195,7 +198,7 @@ pattern-checks classes vars class left w next once none numbered room declared p
       asks = record {
         sign = refl;
         same = λ e bindings named sized size same.
-            accepts-agree classes vars class left.scope w p.done e bindings named once declared (class-of classes e.class (length e.values) sized) (λ c attrs_are long.
+            accepts-agree classes vars class w p.done e bindings named once declared (class-of classes e.class (length e.values) sized) (λ c attrs_are long.
             let go = walk e.values (ap length attrs_are ∙ long) in
             let agree = go.agree bindings named size within same in
             let by_number : Agrees p.done.scope vars (after_tests p.done.tests bindings e.values) (after_attributes w.tests named (zip attrs e.values)) =
@@ -240,12 +243,13 @@ pub record HasWalked (classes : List Class) (vars : ℕ) (left : LeftSide) (ws :
   pub conds : List Cond
   pub more : last.conds ≡ left.conds ++ conds
   pub walked : Walked classes vars left ws conds last
+  pub numbered : IsNumbered last.scope
 
 pub conds-walked : (classes : List Class) (vars : ℕ) (left : LeftSide) (ws : List FormCond) (last : LeftSide) → AreNamedOnce classes → left.scope.local ≡ [] → IsNumbered left.scope → last.scope.vars ≤ vars
     → after_each (with_cond classes) left ws ≡ Ok last → HasWalked classes vars left ws last
 conds-walked classes vars left [] last once none numbered room e =
     let same = same_ok e in
-    record { conds = []; more = ap (λ (l : LeftSide). l.conds) (sym same) ∙ sym (append-nil left.conds); walked = same }
+    record { conds = []; more = ap (λ (l : LeftSide). l.conds) (sym same) ∙ sym (append-nil left.conds); walked = same; numbered = subst (λ (l : LeftSide). IsNumbered l.scope) same numbered }
 conds-walked classes vars left (w ∷ ws) last once none numbered room e =
     let t = passed (with_cond classes left w) (λ mid. after_each (with_cond classes) mid ws) last e in
     let first = (cond-checks classes t.0.scope.vars left w t.0 once none numbered (omega arith) t.1).1 in
@@ -256,12 +260,13 @@ conds-walked classes vars left (w ∷ ws) last once none numbered room e =
       conds = c.0 ∷ rest.conds;
       more = rest.more ∙ ap (λ (cs : List Cond). cs ++ rest.conds) c.1.conds ∙ append_assoc left.conds (c.0 ∷ []) rest.conds;
       walked = (t.0, c.1, rest.walked);
+      numbered = rest.numbered;
     }
 
 -- so they ask what is written
-pub walked-ask : (classes : List Class) (vars : ℕ) (left : LeftSide) (ws : List FormCond) (cs : List Cond) (last : LeftSide) → Walked classes vars left ws cs last → AskWhatIsWritten classes vars (variable_of left.scope) ws cs
+pub walked-ask : (classes : List Class) (vars : ℕ) (left : LeftSide) (ws : List FormCond) (cs : List Cond) (last : LeftSide) → Walked classes vars left ws cs last → AllAskWhatIsWritten classes vars (variable_of left.scope) ws cs
 walked-ask classes vars left [] [] last h = tt
 walked-ask classes vars left [] (c ∷ cs) last h = h
 walked-ask classes vars left (w ∷ ws) [] last h = h
 walked-ask classes vars left (w ∷ ws) (c ∷ cs) last h =
-    (h.1.inside, h.1.asks, subst (λ (front : ℕ → Option ℕ). AskWhatIsWritten classes vars front ws cs) h.1.numbers (walked-ask classes vars h.0 ws cs last h.2))
+    (h.1.inside, h.1.asks, subst (λ (front : ℕ → Option ℕ). AllAskWhatIsWritten classes vars front ws cs) h.1.numbers (walked-ask classes vars h.0 ws cs last h.2))

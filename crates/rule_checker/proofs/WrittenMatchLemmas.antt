@@ -1,37 +1,33 @@
 -- A rule that is checked matches as it is written: one condition element at a time.
-use Rattle.std.proofs.Common.{◌≡◌, ℕ, ◌+◌, Bool, true, false, not, cond, ◌==◌, List, [], ◌∷◌, ◌++◌, Option, None, Some, option_map, option_and_then, is_some, Result, Ok, Err, length, find, replicate, slice_get, refl, sym, ap, ◌∙◌, subst, arith, length-set}
-use Rattle.std.specs.List.{AllByRecursion, AllZip, list_any}
-use Rattle.std.specs.Option.{option_flatten}
+use Rattle.std.proofs.Common.{◌≡◌, ℕ, ◌+◌, Bool, true, false, not, cond, ◌==◌, List, [], ◌∷◌, Option, None, Some, option_map, option_and_then, is_some, Result, length, find, slice_get, refl, sym, ap, ◌∙◌, subst, length-set}
+use Rattle.std.specs.List.{AllByRecursion, list_any}
 use Rattle.std.proofs.lemmas.List.{length-replicate}
 use Rattle.rule_base.specs.declared.value.Value.{Value}
 use Rattle.rule_base.specs.declared.element.Element.{Element}
-use Rattle.rule_base.specs.declared.condition.Arg.{Arg}
 use Rattle.rule_base.specs.declared.condition.Test.{Test}
 use Rattle.rule_base.specs.declared.condition.Test.TheVariants as test
 use Rattle.rule_base.specs.declared.condition.Cond.{Cond}
 use Rattle.rule_base.specs.declared.program.Class.{Class}
 use Rattle.rule_base.specs.declared.program.Rule.{Rule}
-use Rattle.rule_base.specs.declared.program.Program.{Program}
 use Rattle.rule_base.specs.Chains.{only_if}
 use Rattle.rule_base.specs.Value.{same_value}
 use Rattle.rule_base.specs.Predicate.{holds}
-use Rattle.rule_base.specs.Bindings.{Bindings, no_bindings, binding_of, bound}
+use Rattle.rule_base.specs.Bindings.{Bindings, no_bindings, bound}
 use Rattle.rule_base.specs.Memory.{Memory, HasSize, element_at}
 use Rattle.rule_base.specs.Acceptance.{compared_with, after_test, after_tests, accepts}
-use Rattle.rule_base.specs.Match.{accepts_some, after_cond, go_on, match_from, match_of}
+use Rattle.rule_base.specs.Match.{after_cond, go_on, match_from, match_of}
+use Rattle.rule_base.specs.ElementMatch.{after_element, matched}
 use Rattle.rule_base.specs.Sound.{sizes_of}
 use Rattle.ops_reader.specs.declared.form.FormCond.{FormCond}
-use Rattle.ops_reader.specs.declared.form.Form.{Form}
 use Rattle.rule_checker.specs.declared.left_side.LeftSide.{LeftSide}
-use Rattle.rule_checker.specs.Checked.{checked}
 use Rattle.rule_checker.specs.Scope.{no_variables, variable_of}
 use Rattle.rule_checker.specs.LeftSide.{no_conditions}
-use Rattle.rule_checker.specs.NamedBindings.{NamedValues, value_named, SayTheSame, AgreeOn}
+use Rattle.rule_checker.specs.NamedBindings.{NamedValues, SayTheSame, AgreeOn}
 use Rattle.rule_checker.specs.WrittenConditions.{accepts_written}
-use Rattle.rule_checker.specs.WrittenRules.{WrittenRule, written_rules, numbers_behind}
-use Rattle.rule_checker.specs.WrittenMatch.{accepts_some_written, after_written_cond, written_match_from, written_match, MatchTheSame, AreOfClasses, HasWrittenMatch}
-use Rattle.rule_checker.proofs.WrittenConditionLemmas.{AreNamedOnce, Checks, Walked}
-use Rattle.rule_checker.proofs.WrittenRuleLemmas.{IsCheckedTo, zip_map, checked-has_rules, HasSides, sides-of}
+use Rattle.rule_checker.specs.WrittenRules.{WrittenRule, numbers_behind}
+use Rattle.rule_checker.specs.WrittenMatch.{accepts_some_written, after_written_cond, written_match_from, written_match, MatchTheSame, AreOfClasses}
+use Rattle.rule_checker.proofs.WrittenConditionLemmas.{Checks, Walked}
+use Rattle.rule_checker.proofs.WrittenRuleLemmas.{HasSides}
 
 -- tests leave the number of variables
 long-if : (b : Bool) (bindings after : Bindings) → only_if b bindings ≡ Some after → length after ≡ length bindings
@@ -72,6 +68,22 @@ long-accepts c bindings after e is = by (c.class == e.class) is
     by : (b : Bool) → option_and_then (λ given. after_tests c.tests given e.values) (only_if b bindings) ≡ Some after → length after ≡ length bindings
     by true rest = long-tests c.tests bindings after e.values rest
     by false rest = absurd (cc)
+
+pub long-matched : (cs : List Cond) (elements : List Element) (bindings final : Bindings) → matched cs elements bindings ≡ Some final → length final ≡ length bindings
+long-matched [] [] bindings final is = let same : bindings ≡ final = cc in ap length (sym same)
+long-matched [] (e ∷ elements) bindings final is = absurd (cc)
+long-matched (c ∷ cs) elements bindings final is = by c.negated elements (λ more after here. long-matched cs more after final here) is
+  where
+    by_accepted : (e : Element) (more : List Element) (o : Option Bindings) → accepts c bindings e ≡ o → ((rest : List Element) (after : Bindings) → matched cs rest after ≡ Some final → length final ≡ length after)
+        → option_and_then (λ (after : List Element × Bindings). matched cs after.0 after.1) (option_map (λ after. (more, after)) o) ≡ Some final → length final ≡ length bindings
+    by_accepted e more None here rest is' = absurd (cc)
+    by_accepted e more (Some after) here rest is' = rest more after is' ∙ long-accepts c bindings after e here
+
+    by : (b : Bool) (elements : List Element) → ((rest : List Element) (after : Bindings) → matched cs rest after ≡ Some final → length final ≡ length after)
+        → option_and_then (λ (after : List Element × Bindings). matched cs after.0 after.1) (after_element b c elements bindings) ≡ Some final → length final ≡ length bindings
+    by true elements rest is' = rest elements bindings is'
+    by false [] rest is' = absurd (cc)
+    by false (e ∷ more) rest is' = by_accepted e more (accepts c bindings e) refl rest is'
 
 -- what agrees is there in both or in neither
 some-agree : (number : ℕ → Option ℕ) (o : Option Bindings) (w : Option NamedValues) → AgreeOn number o w → is_some o ≡ is_some w
@@ -163,16 +175,9 @@ module _ (classes : List Class) (vars : ℕ) (memory : Memory) (sized : AreOfCla
 pub nothing-said : (vars : ℕ) → SayTheSame (variable_of no_variables) (no_bindings vars) []
 nothing-said vars = record { valued = λ name. refl; same = λ name var is. absurd (cc) }
 
-sides-match : (classes : List Class) (w : WrittenRule) (rule : Rule) (s : HasSides classes w rule) → HasWrittenMatch classes w rule
-sides-match classes w rule s = record {
-  number = variable_of s.left.scope;
-  same = λ memory tags sized.
-      let conds : rule.conds ≡ s.walked.conds = ap (λ (x : Rule). x.conds) s.is ∙ s.walked.more in
-      let same = match-walked classes rule.vars memory sized no_conditions w.conds s.walked.conds s.left s.walked.walked 1 tags (no_bindings rule.vars) [] (length-replicate rule.vars None) (nothing-said rule.vars) in
-      subst (λ (cs : List Cond). MatchTheSame (variable_of s.left.scope) (match_from 1 cs memory tags (no_bindings rule.vars)) (written_match classes w tags memory)) (sym conds) same;
-}
-
-pub checked-matches : (forms : List Form) (p : Program) → checked forms ≡ Ok p → AllZip (HasWrittenMatch p.classes) (written_rules forms) p.rules
-checked-matches forms p e =
-    let h = checked-has_rules forms p e in
-    zip_map (IsCheckedTo p.classes) (HasWrittenMatch p.classes) (λ w rule is. sides-match p.classes w rule (sides-of p.classes w rule h.once is)) (written_rules forms) p.rules h.rules
+pub sides-match : (classes : List Class) (w : WrittenRule) (rule : Rule) (s : HasSides classes w rule) (memory : Memory) (tags : List ℕ) → AreOfClasses classes memory
+    → MatchTheSame (variable_of s.left.scope) (match_of rule tags memory) (written_match classes w tags memory)
+sides-match classes w rule s memory tags sized =
+    let conds : rule.conds ≡ s.walked.conds = ap (λ (x : Rule). x.conds) s.is ∙ s.walked.more in
+    let same = match-walked classes rule.vars memory sized no_conditions w.conds s.walked.conds s.left s.walked.walked 1 tags (no_bindings rule.vars) [] (length-replicate rule.vars None) (nothing-said rule.vars) in
+    subst (λ (cs : List Cond). MatchTheSame (variable_of s.left.scope) (match_from 1 cs memory tags (no_bindings rule.vars)) (written_match classes w tags memory)) (sym conds) same

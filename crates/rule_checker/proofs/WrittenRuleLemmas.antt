@@ -1,10 +1,8 @@
 -- The rules of a checked program are those of its forms: one form at a time.
-use Rattle.std.proofs.Common.{◌≡◌, ◌⊎◌, ℕ, ◌+◌, ◌≤◌, ◌<◌, inl, inr, Bool, true, false, cond, List, [], ◌∷◌, ◌++◌, Option, None, Some, Result, Ok, Err, is_some, length, nat_eq, slice_get, get_or, zero, suc, refl, sym, ap, ◌∙◌, subst, arith, append_assoc, append-nil}
-use Rattle.std.specs.List.{AllZip, position, position_from, flat_map}
+use Rattle.std.proofs.Common.{◌≡◌, ◌⊎◌, ℕ, ◌+◌, ◌≤◌, inl, inr, Bool, true, false, cond, List, [], ◌∷◌, ◌++◌, Option, None, Some, Result, Ok, is_some, length, nat_eq, slice_get, zero, suc, refl, sym, ap, ◌∙◌, subst, arith, append_assoc, append-nil}
+use Rattle.std.specs.List.{AllZip, position_from}
 use Rattle.std.proofs.lemmas.List.{map-append}
 use Rattle.std.proofs.lemmas.Iterator.Adapters.{position_from-zero}
-use Rattle.std.proofs.lemmas.Option.{slice_get_within}
-use Rattle.rule_base.specs.declared.value.Value.{Value}
 use Rattle.rule_base.specs.declared.program.Class.{Class}
 use Rattle.rule_base.specs.declared.program.Rule.{Rule}
 use Rattle.rule_base.specs.declared.program.Program.{Program}
@@ -25,16 +23,15 @@ use Rattle.rule_checker.specs.Forms.{at_form, after_forms}
 use Rattle.rule_checker.specs.Classes.{class_names, not_yet_declared, few_classes, with_attribute, with_class}
 use Rattle.rule_checker.specs.Makes.{make_of}
 use Rattle.rule_checker.specs.LeftSide.{no_conditions, left_side}
-use Rattle.rule_checker.specs.RightSide.{few_actions, make_action, modify_action, with_designator, with_plain_action, set_variable, with_bind, bind_action, after_action, with_action, right_side}
+use Rattle.rule_checker.specs.RightSide.{few_actions, make_action, modify_action, with_designator, with_plain_action, set_variable, with_bind, after_action, with_action, right_side}
 use Rattle.rule_checker.specs.Scope.{variable_of}
 use Rattle.rule_checker.specs.Terms.{term_of, with_item}
 use Rattle.rule_checker.specs.Rules.{new_rule_name, few_rules, rule_of, checked_rule, with_rule}
 use Rattle.rule_checker.specs.Checked.{with_form, no_program, checked}
 use Rattle.rule_checker.specs.WrittenRules.{WrittenRule, rule_in, written_rules, HasWrittenConditions}
-use Rattle.rule_checker.proofs.NumberLemmas.{number_in-within}
 use Rattle.rule_checker.proofs.ResultLemmas.{passed, kept, same_ok, after_each-keeps}
 use Rattle.rule_checker.proofs.CheckedLemmas.{at_form-passes}
-use Rattle.rule_checker.proofs.NamedLemmas.{same_numbers, IsNumbered}
+use Rattle.rule_checker.proofs.NamedLemmas.{same_numbers}
 use Rattle.rule_checker.proofs.LaterClassLemmas.{number_in-front, checked_rule-more}
 use Rattle.rule_checker.proofs.WrittenConditionLemmas.{AreNamedOnce, HasWalked, conds-walked, walked-ask}
 
@@ -54,7 +51,7 @@ zip_map P Q f [] (y ∷ ys) h = h
 zip_map P Q f (x ∷ xs) [] h = h
 zip_map P Q f (x ∷ xs) (y ∷ ys) h = (f x y h.0, zip_map P Q f xs ys h.1)
 
-zip_push : {A B : Type 0} (P : A → B → Type 0) (xs : List A) (ys : List B) (a : A) (b : B) → AllZip P xs ys → P a b → AllZip P (xs ++ a ∷ []) (ys ++ b ∷ [])
+pub zip_push : {A B : Type 0} (P : A → B → Type 0) (xs : List A) (ys : List B) (a : A) (b : B) → AllZip P xs ys → P a b → AllZip P (xs ++ a ∷ []) (ys ++ b ∷ [])
 zip_push P [] [] a b h last = (last, tt)
 zip_push P [] (y ∷ ys) a b h last = absurd h
 zip_push P (x ∷ xs) [] a b h last = absurd h
@@ -212,17 +209,11 @@ sides-of classes w rule once e =
       left_is = l.1;
       right_is = r.1;
       is = is;
-      walked = conds-walked classes rule.vars no_conditions w.conds l.0 once refl (record { below = λ name var known. absurd (cc) }) room l.1;
+      walked = conds-walked classes rule.vars no_conditions w.conds l.0 once refl (record { below = λ name var known. absurd (cc); apart = λ first second var known also. absurd (cc) }) room l.1;
     }
 
 -- its condition elements ask what is written
-rule-asks : (classes : List Class) (w : WrittenRule) (rule : Rule) → AreNamedOnce classes → IsCheckedTo classes w rule → HasWrittenConditions classes w rule
-rule-asks classes w rule once e =
-    let s = sides-of classes w rule once e in
+pub sides-ask : (classes : List Class) (w : WrittenRule) (rule : Rule) → HasSides classes w rule → HasWrittenConditions classes w rule
+sides-ask classes w rule s =
     let conds : rule.conds ≡ s.walked.conds = ap (λ (x : Rule). x.conds) s.is ∙ s.walked.more in
     rw conds (walked-ask classes rule.vars no_conditions w.conds s.walked.conds s.left s.walked.walked)
-
-pub checked-conditions : (forms : List Form) (p : Program) → checked forms ≡ Ok p → AllZip (HasWrittenConditions p.classes) (written_rules forms) p.rules
-checked-conditions forms p e =
-    let h = checked-has_rules forms p e in
-    zip_map (IsCheckedTo p.classes) (HasWrittenConditions p.classes) (λ w rule is. rule-asks p.classes w rule h.once is) (written_rules forms) p.rules h.rules

@@ -1,19 +1,17 @@
 -- The tests that are made of written ones ask what those ask: one test at a time, and then tests in a row.
-use Rattle.std.proofs.Common.{◌≡◌, ℕ, ◌+◌, ◌≤◌, ◌<◌, Bool, true, false, List, [], ◌∷◌, ◌++◌, Option, None, Some, option_and_then, Result, Ok, length, nat_eq, slice_get, get_or, refl, sym, ap, ◌∙◌, subst, arith, append_assoc, append-nil, length-set}
+use Rattle.std.proofs.Common.{◌≡◌, ℕ, ◌+◌, ◌≤◌, ◌<◌, Bool, true, false, List, [], ◌∷◌, ◌++◌, Option, None, Some, option_and_then, Ok, length, slice_get, get_or, refl, sym, ap, ◌∙◌, subst, arith, append_assoc, append-nil, length-set}
 use Rattle.std.specs.List.{list_any, zip}
 use Rattle.std.proofs.lemmas.Option.{slice_get-get_or}
 use Rattle.rule_base.specs.declared.value.Value.{Value}
-use Rattle.rule_base.specs.declared.condition.Pred.{Pred}
 use Rattle.rule_base.specs.declared.condition.Pred.TheVariants.{Eq}
-use Rattle.rule_base.specs.declared.condition.Arg.{Arg}
 use Rattle.rule_base.specs.declared.condition.Arg.TheVariants as arg
 use Rattle.rule_base.specs.declared.condition.Test.{Test}
 use Rattle.rule_base.specs.declared.condition.Test.TheVariants as test
-use Rattle.rule_base.specs.Chains.{only_if, ◌>>=◌}
+use Rattle.rule_base.specs.Chains.{only_if}
 use Rattle.rule_base.specs.Value.{nil, same_value}
 use Rattle.rule_base.specs.Predicate.{holds}
 use Rattle.rule_base.specs.Bindings.{Bindings, bound}
-use Rattle.rule_base.specs.Acceptance.{compared_with, after_test, after_tests}
+use Rattle.rule_base.specs.Acceptance.{after_test, after_tests}
 use Rattle.ops_reader.specs.declared.form.FormArg.TheVariants as written
 use Rattle.ops_reader.specs.declared.form.Simple.{Simple}
 use Rattle.ops_reader.specs.declared.form.Simple.TheVariants as simple
@@ -24,9 +22,9 @@ use Rattle.rule_checker.specs.Names.{number_in}
 use Rattle.rule_checker.specs.Walk.{after_each}
 use Rattle.rule_checker.specs.Classes.{has_attribute}
 use Rattle.rule_checker.specs.Scope.{variable_of, bound_to_its_left, with_variable}
-use Rattle.rule_checker.specs.ConditionTests.{with_test, with_use, with_simple, with_tests, tests_of}
-use Rattle.rule_checker.specs.NamedBindings.{NamedValues, value_named, naming, SayTheSame, AgreeOn}
-use Rattle.rule_checker.specs.WrittenTests.{after_use, after_written, after_braces}
+use Rattle.rule_checker.specs.ConditionTests.{with_test, with_use, with_simple, with_tests}
+use Rattle.rule_checker.specs.NamedBindings.{NamedValues, value_named, SayTheSame}
+use Rattle.rule_checker.specs.WrittenTests.{after_use, after_written_test, after_braces}
 use Rattle.rule_checker.specs.WrittenConditions.{after_attribute, after_attributes}
 use Rattle.rule_checker.proofs.NumberLemmas.{number_in-within}
 use Rattle.rule_checker.proofs.ResultLemmas.{passed, found, same_ok}
@@ -53,7 +51,7 @@ pub record Goes (vars : ℕ) (negated : Bool) (values : List Value) (done next :
       → Agrees next.scope vars (after_tests tests bindings values) (asks named)
 
 -- tests in a row
-pub after_tests-append : (xs ys : List Test) (bindings : Bindings) (values : List Value) → after_tests (xs ++ ys) bindings values ≡ option_and_then (λ after. after_tests ys after values) (after_tests xs bindings values)
+after_tests-append : (xs ys : List Test) (bindings : Bindings) (values : List Value) → after_tests (xs ++ ys) bindings values ≡ option_and_then (λ after. after_tests ys after values) (after_tests xs bindings values)
 after_tests-append [] ys bindings values = refl
 after_tests-append (x ∷ xs) ys bindings values = by (after_test x bindings values) (λ after. after_tests-append xs ys after values)
   where
@@ -62,7 +60,7 @@ after_tests-append (x ∷ xs) ys bindings values = by (after_test x bindings val
     by None rest = refl
     by (Some after) rest = rest after
 
-pub goes-nowhere : (vars : ℕ) (negated : Bool) (values : List Value) (done : TestsSoFar) → IsNumbered done.scope → Goes vars negated values done done (λ named. Some named)
+goes-nowhere : (vars : ℕ) (negated : Bool) (values : List Value) (done : TestsSoFar) → IsNumbered done.scope → Goes vars negated values done done (λ named. Some named)
 goes-nowhere vars negated values done numbered = record {
   tests = [];
   more = sym (append-nil done.tests);
@@ -82,7 +80,7 @@ agree-then mid last vars None (Some named) f g next h = absurd h
 agree-then mid last vars (Some bindings) None f g next h = absurd h
 agree-then mid last vars (Some bindings) (Some named) f g next h = next bindings named h.0 h.1
 
-pub goes-on : (vars : ℕ) (negated : Bool) (values : List Value) (done mid next : TestsSoFar) (f g : NamedValues → Option NamedValues) → Goes vars negated values done mid f → Goes vars negated values mid next g
+goes-on : (vars : ℕ) (negated : Bool) (values : List Value) (done mid next : TestsSoFar) (f g : NamedValues → Option NamedValues) → Goes vars negated values done mid f → Goes vars negated values mid next g
     → Goes vars negated values done next (λ named. option_and_then g (f named))
 goes-on vars negated values done mid next f g first second = record {
   tests = first.tests ++ second.tests;
@@ -160,7 +158,7 @@ use-goes vars negated values done attr name v (Some var) numbered at is =
 
 -- one written test
 simple-goes : (vars : ℕ) (negated : Bool) (values : List Value) (attr : ℕ) (v : Value) → slice_get values attr ≡ Some v → (done : TestsSoFar) (s : Simple) (next : TestsSoFar) → IsNumbered done.scope
-    → with_simple negated attr done s ≡ Ok next → Goes vars negated values done next (λ named. after_written s named v)
+    → with_simple negated attr done s ≡ Ok next → Goes vars negated values done next (λ named. after_written_test s named v)
 simple-goes vars negated values attr v at done (simple.Plain (written.Con other)) next numbered e =
     subst (λ (t : TestsSoFar). Goes vars negated values done t (λ named. only_if (same_value v other) named)) (same_ok e)
     (plain-goes vars negated values done (test.Cmp attr Eq (arg.Con other)) (λ named. only_if (same_value v other) named) numbered
@@ -193,7 +191,7 @@ braces-go vars negated values attr v at done [] next numbered e =
 braces-go vars negated values attr v at done (s ∷ ss) next numbered e =
     let w = passed (with_simple negated attr done s) (λ mid. after_each (with_simple negated attr) mid ss) next e in
     let first = simple-goes vars negated values attr v at done s w.0 numbered w.1 in
-    goes-on vars negated values done w.0 next (λ named. after_written s named v) (λ named. after_braces ss named v) first (braces-go vars negated values attr v at w.0 ss next first.numbered w.2)
+    goes-on vars negated values done w.0 next (λ named. after_written_test s named v) (λ named. after_braces ss named v) first (braces-go vars negated values attr v at w.0 ss next first.numbered w.2)
 
 -- the tests of one attribute
 attribute-goes : (vars : ℕ) (negated : Bool) (attrs : List ℕ) (values : List Value) → length attrs ≡ length values → (done : TestsSoFar) (w : ℕ × List Simple) (next : TestsSoFar) → IsNumbered done.scope

@@ -23,8 +23,14 @@ pub mod WrittenTests
 pub mod WrittenConditions
 pub mod WrittenRules
 pub mod WrittenMatch
+pub mod WrittenTerms
+pub mod Designators
+pub mod WrittenEffect
+pub mod WrittenFirings
+pub mod WrittenMakes
 pub mod WrittenLaws
 -- what the code keeps
 pub mod Kept
 -- worked rows
+pub mod Meanings
 pub mod Rows

@@ -1,5 +1,5 @@
 -- Bindings by name: what the variables of a rule have, as a reader of its text says it, with no numbers for them.
-use Rattle.std.specs.Prelude.{◌≡◌, ℕ, List, [], ◌∷◌, nat_eq, Option, None, Some, is_some}
+use Rattle.std.specs.Prelude.{◌≡◌, ℕ, List, ◌∷◌, nat_eq, Option, None, Some, is_some}
 use Rattle.std.specs.Map.{lookup}
 use Rattle.rule_base.specs.declared.value.Value.{Value}
 use Rattle.rule_base.specs.Bindings.{Bindings, binding_of}

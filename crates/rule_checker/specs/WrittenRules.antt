@@ -45,13 +45,13 @@ numbers_behind true front inside = front
 numbers_behind false front inside = inside
 
 -- condition elements ask what is written, from left to right, each with some numbers for the names of its variables
-abbrev pub AskWhatIsWritten : List Class → ℕ → (ℕ → Option ℕ) → List FormCond → List Cond → Type 0
-AskWhatIsWritten classes vars front [] [] = Unit {0}
-AskWhatIsWritten classes vars front [] (cond ∷ conds) = ⊥
-AskWhatIsWritten classes vars front (written ∷ others) [] = ⊥
-AskWhatIsWritten classes vars front (written ∷ others) (cond ∷ conds) =
+abbrev pub AllAskWhatIsWritten : List Class → ℕ → (ℕ → Option ℕ) → List FormCond → List Cond → Type 0
+AllAskWhatIsWritten classes vars front [] [] = Unit {0}
+AllAskWhatIsWritten classes vars front [] (cond ∷ conds) = ⊥
+AllAskWhatIsWritten classes vars front (written ∷ others) [] = ⊥
+AllAskWhatIsWritten classes vars front (written ∷ others) (cond ∷ conds) =
     (inside : ℕ → Option ℕ) × AsksWhatIsWritten classes vars front inside written cond
-    × AskWhatIsWritten classes vars (numbers_behind written.negated front inside) others conds
+    × AllAskWhatIsWritten classes vars (numbers_behind written.negated front inside) others conds
 
 -- no name has a number
 abbrev pub no_numbers : ℕ → Option ℕ
@@ -59,4 +59,4 @@ no_numbers name = None
 
 -- the condition elements of a rule ask what is written
 abbrev pub HasWrittenConditions : List Class → WrittenRule → Rule → Type 0
-HasWrittenConditions classes written rule = AskWhatIsWritten classes rule.vars no_numbers written.conds rule.conds
+HasWrittenConditions classes written rule = AllAskWhatIsWritten classes rule.vars no_numbers written.conds rule.conds

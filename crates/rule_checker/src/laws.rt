@@ -1,7 +1,8 @@
 //! Laws of the definitions. Each function here does nothing: its contract is the law.
 
 ghost use Rattle.rule_checker.specs.Laws.{CheckedAreSound, CheckedDeclareAll, ViolationsAreFirst, FrontDecides, ProgramKinds, MemoryFileKinds};
-ghost use Rattle.rule_checker.specs.WrittenLaws.{ConditionsAreWritten, MatchesAreWritten};
+ghost use Rattle.rule_checker.specs.WrittenLaws.{RulesMeanWhatIsWritten, ChoicesFireWhatIsWritten, MakesAreWritten, OpeningsAreWritten};
+ghost use Rattle.rule_checker.specs.Meanings.{AreTestMeanings, AreMatchMeanings, AreActionMeanings};
 ghost use Rattle.rule_checker.specs.Rows.Programs.{ArePrograms};
 ghost use Rattle.rule_checker.specs.Rows.Violations.{AreDeclarationViolations, AreConditionViolations, AreActionViolations};
 ghost use Rattle.rule_checker.specs.Rows.Openings.{AreOpenings};
@@ -48,15 +49,25 @@ pub fn violations_are_of_these_kinds()
     ensures memory_file { MemoryFileKinds }
 {}
 
-/// The rules of a checked program are those of its forms, in their order, and each condition element asks
-/// what is written: under bindings that say the same it accepts the same elements, and then the bindings say
-/// the same again.
-pub fn conditions_are_written()
-    ensures { ConditionsAreWritten }
+/// The rules of a checked program are those of its forms, in their order, and each means what is written:
+/// its condition elements accept the same elements, it matches with the same tags, and it changes and
+/// writes the same. What is written is said over names and values alone. So the choices that match are those
+/// of the text in every memory, and what they do is what it says.
+pub fn rules_mean_what_is_written()
+    ensures rules { RulesMeanWhatIsWritten }
+    ensures choices { ChoicesFireWhatIsWritten }
 {}
 
-/// Each rule of a checked program matches as it is written: with the same tags in the same memory, or it
-/// fails at the same condition element.
-pub fn matches_are_written()
-    ensures { MatchesAreWritten }
+/// The makes of a checked program are those of its forms, and its opening memory has what they and those of
+/// the memory file make, in their order, with the attributes that are written.
+pub fn makes_mean_what_is_written()
+    ensures makes { MakesAreWritten }
+    ensures opening { OpeningsAreWritten }
+{}
+
+/// What short rules mean as they are written.
+pub fn meanings()
+    ensures tests { AreTestMeanings }
+    ensures matches { AreMatchMeanings }
+    ensures actions { AreActionMeanings }
 {}
