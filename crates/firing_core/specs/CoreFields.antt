@@ -1,16 +1,16 @@
 -- How a core's fields give what contracts see of it.
 use Rattle.rule_base.specs.State.{State}
-use Rattle.rule_base.specs.Step.{still_fired}
 use Rattle.firing_core.specs.declared.machine.Core.TheInside.{Inside}
 use Rattle.firing_core.specs.CoreState.{CoreState}
 use Rattle.firing_core.specs.Kept.{IsKept}
+use Rattle.firing_core.specs.KeptChoices.{KeepFired, fired_by}
 
--- the state that the fields hold: of the choices that are kept as fired, those have that stay so in this memory
+-- the state that the fields hold
 abbrev pub state_in : Inside → State
 state_in core = record {
   memory = core.memory;
   next = core.journal.next;
-  fired = still_fired core.base.refraction core.program.value core.memory core.fired.items;
+  fired = fired_by core.base.refraction core.program.value core.memory core.base.fired core.journal.entries core.fired.items;
   entries = core.journal.entries;
   halted = core.halted;
   refraction = core.base.refraction;
@@ -21,5 +21,7 @@ abbrev pub core_in : Inside → CoreState
 core_in core = record { program = core.program.value; base = core.base; budget = core.budget; state = state_in core }
 
 -- that core is lawful, and ready for its next firing
-abbrev pub HoldsKept : Inside → Type 0
-HoldsKept core = IsKept (core_in core)
+pub record HoldsKept (core : Inside) : Type 0 where
+  pub kept : IsKept (core_in core)
+  -- what is kept as fired tells what has fired
+  pub fired : KeepFired core.base.refraction core.journal.next core.memory (state_in core).fired core.fired.items

@@ -1,4 +1,4 @@
--- Refraction as the core tells it: a choice has fired where it is among those that are kept.
+-- Which choices of a list are among those that have fired.
 use Rattle.std.specs.Prelude.{List, Bool, not, Option, find}
 use Rattle.std.specs.List.{list_any}
 use Rattle.rule_base.specs.declared.instantiation.Choice.{Choice}

@@ -12,7 +12,7 @@ ghost use Rattle.firing_core.specs.Firing.{IsNext, Fires, TellsFault};
 
 use crate::commit::{born_elements, gone_tags};
 use crate::instantiations::first_unfired;
-use crate::refraction::forget_stopped;
+use crate::refraction::{forget_gone, forget_stopped};
 use crate::workbench::Workbench;
 use commit_journal::{Journal, Room};
 use ops_text::{OutOfMemory, copied};
@@ -30,7 +30,8 @@ pub struct Core {
     base: Base,
     budget: u64,
     memory: Elements,
-    /// What has fired; under `Renewed` also what has stopped matching since the last firing.
+    /// Of the choices that have fired, those that may match yet; under `Renewed` also some that have stopped
+    /// matching. It grows with the choices that are left in the memory, not with the firings.
     fired: Vec<Choice>,
     journal: Journal,
     halted: bool,
@@ -185,7 +186,8 @@ impl Core {
         ensures err { OnErr result (self.new ≡ self.old) }
     {
         let gone = gone_tags(alloc, effect)?;
-        let born = born_elements(alloc, self.journal.next(), effect)?;
+        let next = self.journal.next();
+        let born = born_elements(alloc, next, effect)?;
         let room = Room::for_entry(
             choice.tags.as_slice(),
             gone.as_slice(),
@@ -212,6 +214,7 @@ impl Core {
             effect.halts(),
         );
         self.fired.push_reserved(choice);
+        forget_gone(self.base.refraction, next, gone.as_slice(), &mut self.fired);
         Ok(())
     }
 }

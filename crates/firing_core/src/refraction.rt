@@ -1,10 +1,12 @@
 //! What stays fired.
 
-ghost use Rattle.std.specs.Prelude.{◌≡◌, ◌<◌, ℕ, IfOk, filter, OnOk, OnErr, is_ok, vec_capacity, vec_len};
+ghost use Rattle.std.specs.Prelude.{◌≡◌, ◌<◌, ◌==◌, ℕ, IfOk, filter, OnOk, OnErr, is_ok, vec_capacity, vec_len};
+ghost use Rattle.std.specs.List.{list_any};
 ghost use Rattle.rule_base.specs.Match.{match_from};
 ghost use Rattle.rule_base.specs.Memory.{IsMemory};
 ghost use Rattle.rule_base.specs.Sound.{IsSound, sizes_of};
 ghost use Rattle.rule_base.specs.Step.{matches, still_fired};
+ghost use Rattle.firing_core.specs.KeptChoices.{has_gone, kept_after};
 ghost use Rattle.firing_core.specs.Matching.{MayMatch};
 
 use crate::acceptance::{accepts, accepts_some};
@@ -13,8 +15,8 @@ use ops_text::OutOfMemory;
 use rule_base::{Choice, Cond, Elements, Program, Refraction};
 use std::alloc::Global;
 
-/// Leaves of the choices that have fired those that stay so in this memory, and makes room for one more.
-/// Under `Renewed` it matches each of them anew.
+/// Under `Renewed`, takes away the choices that don't match in this memory, each of which it matches
+/// anew. Under both refractions it makes room for one more.
 pub fn forget_stopped(
     alloc: Global,
     refraction: Refraction,
@@ -38,6 +40,34 @@ pub fn forget_stopped(
             Ok(())
         }
     }
+}
+
+/// Under `Once`, takes away the choices with a tag that has gone: they can't match again. Tags from
+/// `next` on haven't been given, so they can't have gone.
+pub fn forget_gone(refraction: Refraction, next: u64, gone: &[u64], fired: &mut Vec<Choice>)
+    ensures { fired.new.items ≡ kept_after refraction next gone.now fired.old.items }
+{
+    match refraction {
+        Refraction::Once => fired.retain(|choice| !has_gone(next, gone, choice)),
+        Refraction::Renewed => {}
+    }
+}
+
+/// Whether a tag of the choice, given before `next`, has gone.
+fn has_gone(next: u64, gone: &[u64], choice: &Choice) -> bool
+    ensures { result ≡ has_gone next gone.now choice.now }
+{
+    choice
+        .tags
+        .as_slice()
+        .iter()
+        .any(|tag| *tag < next && is_among(*tag, gone))
+}
+
+fn is_among(tag: u64, tags: &[u64]) -> bool
+    ensures { result ≡ list_any (λ other. other == tag) tags.now }
+{
+    tags.iter().any(|other| *other == tag)
 }
 
 /// Copies of the choices that match.

@@ -87,3 +87,15 @@ of_rule program next memory c (Some rule) sound given at ok = of_match program n
 -- a choice that matches fits its rule
 pub FitsRule-matches : (program : Program) (next : ℕ) (memory : Memory) (c : Choice) → IsSound program → AllByRecursion (λ (e : Element). WasGiven next e.tag) memory → matches program memory c ≡ true → FitsRule program next c
 FitsRule-matches program next memory c sound given ok = of_rule program next memory c (slice_get program.rules c.rule) sound given refl ok
+
+each_of_match : (P : ℕ → Type 0) (memory : Memory) (c : Choice) (rule : Rule) (r : Result Bindings ℕ) → AllByRecursion (λ (e : Element). P e.tag) memory → match_of rule c.tags memory ≡ r → is_ok r ≡ true → AllByRecursion P c.tags
+each_of_match P memory c rule (Err n) each is ok = absurd (let wrong : ⊥ = cc in wrong)
+each_of_match P memory c rule (Ok last) each is ok = (are_taken P 1 rule.conds memory (of_tag P memory each) c.tags (no_bindings rule.vars) last is).each
+
+each_of_rule : (P : ℕ → Type 0) (memory : Memory) (c : Choice) (o : Option Rule) → AllByRecursion (λ (e : Element). P e.tag) memory → option_map_or (λ (rule : Rule). is_ok (match_of rule c.tags memory)) o false ≡ true → AllByRecursion P c.tags
+each_of_rule P memory c None each ok = absurd (let wrong : ⊥ = cc in wrong)
+each_of_rule P memory c (Some rule) each ok = each_of_match P memory c rule (match_of rule c.tags memory) each refl ok
+
+-- what holds of each element's tag holds of each tag of a choice that matches
+pub Each-matches : (P : ℕ → Type 0) (program : Program) (memory : Memory) (c : Choice) → AllByRecursion (λ (e : Element). P e.tag) memory → matches program memory c ≡ true → AllByRecursion P c.tags
+Each-matches P program memory c each ok = each_of_rule P memory c (slice_get program.rules c.rule) each ok

@@ -121,7 +121,7 @@ impl Elements {
         None
     }
 
-    /// Takes all elements away, and keeps the room that they had.
+    /// Takes all elements away. The room that they had stays, though no contract says so.
     pub fn clear(&mut self)
         ensures { self.new ≡ [] }
     {
