@@ -1,5 +1,5 @@
 -- Whether a condition element accepts some element, element by element.
-use Rattle.std.proofs.Common.{◌≡◌, ℕ, ◌+◌, List, [], ◌∷◌, ◌++◌, Bool, true, false, ◌||◌, Some, None, is_some, slice_get, suc, take, zero, refl, sym, ◌∙◌, ap}
+use Rattle.std.proofs.Common.{◌≡◌, ℕ, ◌+◌, List, [], ◌∷◌, ◌++◌, Bool, true, false, ◌||◌, Some, None, is_some, slice_get, suc, take, zero, refl, ◌∙◌, ap}
 use Rattle.std.specs.List.{list_any}
 use Rattle.rule_base.specs.declared.condition.Cond.{Cond}
 use Rattle.rule_base.specs.declared.element.Element.{Element}

@@ -1,5 +1,5 @@
 -- What the kept choices tell of the fired ones stays told when a firing takes elements away and brings others.
-use Rattle.std.proofs.Common.{◌≡◌, ℕ, ◌+◌, ◌<◌, List, [], ◌∷◌, ◌++◌, length, Bool, true, false, not, cond, ◌&&◌, ◌||◌, ◌==◌, nat_lt, refl, sym, ◌∙◌, ap, subst, append_assoc, append-nil, true≢false, arith}
+use Rattle.std.proofs.Common.{◌≡◌, ℕ, ◌+◌, ◌<◌, List, [], ◌∷◌, ◌++◌, Bool, true, false, not, cond, ◌&&◌, ◌||◌, ◌==◌, nat_lt, refl, sym, ◌∙◌, ap, subst, append_assoc, append-nil, true≢false, arith}
 use Rattle.std.specs.List.{AllByRecursion, filter, list_any}
 use Rattle.std.proofs.lemmas.Bool.Decides.{Decides-eqb, Decides-ltb}
 use Rattle.std.proofs.lemmas.List.{map_push}
@@ -18,7 +18,7 @@ use Rattle.rule_base.specs.Base.{StillMatch}
 use Rattle.rule_base.proofs.ChoiceLemmas.{any_filter, any_filtered}
 use Rattle.rule_base.proofs.StillFiredLemmas.{still_fired-all, still_fired-listed, still_fired-twice}
 use Rattle.rule_base.proofs.TakenLemmas.{Each-matches}
-use Rattle.firing_core.specs.KeptChoices.{KeepFired, MayMatchYet, TellFired, fired_by, has_gone, has_tag, kept_after}
+use Rattle.firing_core.specs.KeptChoices.{KeepFired, MayMatchYet, fired_by, has_gone, has_tag, kept_after}
 
 -- two truth values that hold of each other
 both_ways : (a b : Bool) → (a ≡ true → b ≡ true) → (b ≡ true → a ≡ true) → a ≡ b
@@ -78,7 +78,7 @@ record IsLeftTag (memory : Memory) (gone : List ℕ) (tag : ℕ) : Type 0 where
 
 left_tag : (memory : Memory) (gone : List ℕ) (tag : ℕ) → has_tag (without memory gone) tag ≡ true → IsLeftTag memory gone tag
 left_tag [] gone tag has = absurd (let wrong : ⊥ = cc in wrong)
-left_tag (e ∷ memory) gone tag has = first (is_gone gone e.tag) (e.tag == tag) refl refl has
+left_tag (e ∷ memory) gone tag has = first (is_gone gone e.tag) (e.tag == tag) refl refl (left_tag memory gone tag) has
   where
     add : IsLeftTag memory gone tag → (b : Bool) → (b || has_tag memory tag) ≡ true
     add left true = refl
@@ -87,13 +87,13 @@ left_tag (e ∷ memory) gone tag has = first (is_gone gone e.tag) (e.tag == tag)
     later : (b : Bool) → IsLeftTag memory gone tag → (e.tag == tag) ≡ b → IsLeftTag (e ∷ memory) gone tag
     later b left is = record { there = add left (e.tag == tag); stays = left.stays }
 
-    first : (went same : Bool) → is_gone gone e.tag ≡ went → (e.tag == tag) ≡ same → has_tag (cond (not went) (e ∷ without memory gone) (without memory gone)) tag ≡ true → IsLeftTag (e ∷ memory) gone tag
-    first true same went_is same_is has = later same (left_tag memory gone tag has) same_is
-    first false true went_is same_is has = record {
+    first : (went same : Bool) → is_gone gone e.tag ≡ went → (e.tag == tag) ≡ same → (has_tag (without memory gone) tag ≡ true → IsLeftTag memory gone tag) → has_tag (cond (not went) (e ∷ without memory gone) (without memory gone)) tag ≡ true → IsLeftTag (e ∷ memory) gone tag
+    first true same went_is same_is rest has = later same (rest has) same_is
+    first false true went_is same_is rest has = record {
       there = ap (λ b. b || has_tag memory tag) same_is;
       stays = ap (is_gone gone) (sym ((Decides-eqb e.tag tag).0 same_is)) ∙ went_is;
     }
-    first false false went_is same_is has = later false (left_tag memory gone tag (sym (ap (λ b. b || has_tag (without memory gone) tag) same_is) ∙ has)) same_is
+    first false false went_is same_is rest has = later false (rest (sym (ap (λ b. b || has_tag (without memory gone) tag) same_is) ∙ has)) same_is
 
 -- a tag from before that is an element's after a firing is one that is left
 after_firing : (next : ℕ) (memory : Memory) (gone : List ℕ) (changes : List Change) (tag : ℕ) → tag < next → has_tag (without memory gone ++ born next changes) tag ≡ true → IsLeftTag memory gone tag
@@ -146,6 +146,10 @@ fired_by-start Renewed program memory fired matching = still_fired-all Renewed p
 pub KeepFired-same : (r : Refraction) (next : ℕ) (memory : Memory) (fired kept : List Choice) → fired ≡ kept → KeepFired r next memory fired kept
 KeepFired-same Once next memory fired kept same = λ c may. ap (list_any (same_choice c)) (sym same)
 KeepFired-same Renewed next memory fired kept same = tt
+
+pub KeepFired-moved : (r : Refraction) (n m : ℕ) (memory after : Memory) (fired now kept left : List Choice) → n ≡ m → memory ≡ after → fired ≡ now → kept ≡ left → KeepFired r n memory fired kept → KeepFired r m after now left
+KeepFired-moved r n m memory after fired now kept left next memory_is fired_is kept_is tells =
+    subst (KeepFired r m after now) kept_is (subst (λ f. KeepFired r m after f kept) fired_is (subst (λ e. KeepFired r m e fired kept) memory_is (subst (λ t. KeepFired r t memory fired kept) next tells)))
 
 -- where of the kept choices those are left that stay fired, the same have fired, and what is kept tells it
 pub fired_by-forgotten : (r : Refraction) (program : Program) (memory : Memory) (base : List Choice) (entries : List Entry) (kept : List Choice) → fired_by r program memory base entries (still_fired r program memory kept) ≡ fired_by r program memory base entries kept

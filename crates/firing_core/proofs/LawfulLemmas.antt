@@ -1,5 +1,5 @@
 -- Lawful cores: a core at its base is one and ready for a firing, and a firing keeps it so.
-use Rattle.std.proofs.Common.{◌≡◌, ℕ, ◌+◌, ◌^◌, ◌<◌, ◌≤◌, [], ◌∷◌, ◌++◌, length, true, Some, Ok, option_and_then, slice_get, refl, ◌∙◌, ap, arith}
+use Rattle.std.proofs.Common.{◌≡◌, ℕ, ◌+◌, ◌^◌, ◌<◌, ◌≤◌, [], ◌∷◌, ◌++◌, length, Some, Ok, option_and_then, slice_get, refl, ◌∙◌, ap, arith}
 use Rattle.std.proofs.lemmas.List.{length_push, map_push}
 use Rattle.rule_base.specs.declared.entry.Entry.{Entry}
 use Rattle.rule_base.specs.declared.instantiation.Choice.{Choice}
@@ -21,7 +21,6 @@ use Rattle.rule_base.proofs.RunLemmas.{refraction-step}
 use Rattle.rule_base.proofs.MachineLemmas.{Each-elements_at, HasRule-effect_of, IsKeepingStep-sound}
 use Rattle.rule_base.proofs.StepLemmas.{IsStep-from_step, run-append}
 use Rattle.firing_core.specs.CoreState.{CoreState}
-use Rattle.firing_core.specs.Lawful.{IsLawful}
 use Rattle.firing_core.specs.Kept.{IsKept}
 
 pub IsKept-start : (program : Program) (base : Base) (budget : ℕ) → IsSound program → IsLawfulBase program base → IsBudget budget → IsKept (record { program = program; base = base; budget = budget; state = start base })

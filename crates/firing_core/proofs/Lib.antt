@@ -6,6 +6,7 @@ pub mod FilterLemmas
 pub mod UnfiredLemmas
 -- the firing
 pub mod ChangeLemmas
+pub mod KeptChoiceLemmas
 pub mod FiringLemmas
 pub mod LawfulLemmas
 pub mod CommitLemmas

@@ -7,11 +7,12 @@ use Rattle.rule_base.specs.State.{has_fired, same_choice}
 use Rattle.rule_base.specs.Step.{is_listed, matches}
 use Rattle.rule_base.proofs.EachLemmas.{Each-find}
 use Rattle.rule_base.proofs.ConflictSetLemmas.{AllMatch-conflict_set}
-use Rattle.rule_base.proofs.StillFiredLemmas.{AllListed-conflict_set, still_fired-listed}
+use Rattle.rule_base.proofs.StillFiredLemmas.{AllListed-conflict_set}
 use Rattle.firing_core.specs.declared.machine.Core.TheInside.{Inside}
 use Rattle.firing_core.specs.CoreFields.{core_in, HoldsKept, state_in}
 use Rattle.firing_core.specs.Firing.{IsNext}
 use Rattle.firing_core.specs.Unfired.{first_unfired}
+use Rattle.firing_core.proofs.KeptChoiceLemmas.{told_fired}
 
 -- where no element fails a test, each passes it
 all_head : {X : Type 0} (b rest : Bool) (x : X) (later : Option X) → cond (not b) (Some x) later ≡ None → (later ≡ None → rest ≡ true) → (b && rest) ≡ true
@@ -36,18 +37,18 @@ found_by : {X : Type 0} (p q : X → Bool) (xs : List X) → AllByRecursion (λ 
 found_by p q [] same = refl
 found_by p q (x ∷ xs) same = ap (λ b. cond (not b) (Some x) (find (λ y. not (p y)) xs)) same.0 ∙ ap (λ later. cond (not (q x)) (Some x) later) (found_by p q xs same.1)
 
--- of the choices that are kept as fired, one of the conflict set has fired
-kept_fired : (core : Inside) (choices : List Choice) → AllByRecursion (λ (c : Choice). is_listed core.program.value core.memory c ≡ true) choices → AllByRecursion (λ (c : Choice). list_any (same_choice c) core.fired.items ≡ has_fired (state_in core) c) choices
-kept_fired core [] listed = tt
-kept_fired core (c ∷ choices) listed =
-    (sym (still_fired-listed core.base.refraction core.program.value core.memory core.fired.items c listed.0), kept_fired core choices listed.1)
+-- what is kept as fired tells of each choice of the conflict set whether it has fired
+kept_fired : (core : Inside) (choices : List Choice) → HoldsKept core → AllByRecursion (λ (c : Choice). is_listed core.program.value core.memory c ≡ true) choices → AllByRecursion (λ (c : Choice). matches core.program.value core.memory c ≡ true) choices → AllByRecursion (λ (c : Choice). list_any (same_choice c) core.fired.items ≡ has_fired (state_in core) c) choices
+kept_fired core [] kept listed matching = tt
+kept_fired core (c ∷ choices) kept listed matching =
+    (told_fired core.base.refraction core.program.value core.journal.next core.memory core.base.fired core.journal.entries core.fired.items c kept.fired listed.0 matching.0, kept_fired core choices kept listed.1 matching.1)
 
 -- the answer of the filters says what the core's call promises
 pub first_unfired_is : (core : Inside) (found : Option Choice) → HoldsKept core → found ≡ first_unfired core.fired.items (conflict_set core.program.value core.memory) → IsNext (core_in core) found
 first_unfired_is core found kept is =
     let choices = conflict_set core.program.value core.memory in
-    let rises = kept.state.elements.rising in
-    let fired = kept_fired core choices (AllListed-conflict_set core.program.value core.memory rises) in
+    let rises = kept.kept.state.elements.rising in
+    let fired = kept_fired core choices kept (AllListed-conflict_set core.program.value core.memory rises) (AllMatch-conflict_set core.program.value core.memory rises) in
     is_next core found kept (is ∙ found_by (λ c. list_any (same_choice c) core.fired.items) (has_fired (state_in core)) choices fired)
   where
     is_next : (core : Inside) (found : Option Choice) → HoldsKept core → found ≡ find (λ c. not (has_fired (state_in core) c)) (conflict_set core.program.value core.memory) → IsNext (core_in core) found
@@ -56,7 +57,7 @@ first_unfired_is core found kept is =
         let choices = conflict_set core.program.value core.memory in
         let first = fails_first (has_fired (state_in core)) choices c (sym is) in
         record {
-          matching = Each-find (λ (c : Choice). matches core.program.value core.memory c ≡ true) (λ (c : Choice). not (has_fired (state_in core) c)) choices c (AllMatch-conflict_set core.program.value core.memory kept.state.elements.rising) (sym is);
+          matching = Each-find (λ (c : Choice). matches core.program.value core.memory c ≡ true) (λ (c : Choice). not (has_fired (state_in core) c)) choices c (AllMatch-conflict_set core.program.value core.memory kept.kept.state.elements.rising) (sym is);
           unfired = first.0;
           not_quiet = first.1;
         }

@@ -8,4 +8,5 @@ pub mod Unfired
 pub mod Firing
 pub mod Turn
 pub mod Kept
+pub mod KeptChoices
 pub mod CoreFields

@@ -1,5 +1,5 @@
 -- An element is accepted, and what it bound is taken away again; or it is passed over.
-use Rattle.std.proofs.Common.{◌≡◌, Some, None, rules, sym, ◌∙◌, ap, subst}
+use Rattle.std.proofs.Common.{◌≡◌, Some, None, sym, ◌∙◌, subst}
 use Rattle.std.proofs.lemmas.Option.{get_or_from_slice_get, slice_get_within}
 use Rattle.rule_base.specs.Acceptance.{accepts}
 use Rattle.rule_base.specs.Views.{element_in}

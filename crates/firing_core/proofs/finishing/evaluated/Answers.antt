@@ -1,6 +1,5 @@
 -- A choice that is left and whose right-hand side fails is a fault.
-use Rattle.std.proofs.Common.{◌≡◌, rules, true, refl, sym, ◌∙◌, arith}
-use Rattle.rule_base.specs.Step.{is_listed}
+use Rattle.std.proofs.Common.{rules, arith}
 use Rattle.rule_base.proofs.ListedLemmas.{list_any-matches}
 use Rattle.firing_core.proofs.finishing.evaluated.Goals as goal
 

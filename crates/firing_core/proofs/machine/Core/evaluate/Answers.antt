@@ -1,7 +1,6 @@
 -- The rule of the choice accepts its elements, and what comes of it comes of the choice.
-use Rattle.std.proofs.Common.{◌≡◌, true, Ok, Err, IsSome, Some, slice_get, rules, sym, ◌∙◌, ap, subst}
+use Rattle.std.proofs.Common.{◌≡◌, true, Ok, IsSome, Some, slice_get, rules, sym, subst}
 use Rattle.std.proofs.lemmas.Result.{IfErr-weaker, IfOk-weaker}
-use Rattle.rule_base.specs.declared.program.Rule.{Rule}
 use Rattle.rule_base.specs.Memory.{elements_at}
 use Rattle.rule_base.specs.Effect.{effect}
 use Rattle.rule_base.specs.ElementMatch.{bindings_with}
