@@ -1,8 +1,15 @@
-//! Tests of the crates that the engine is made of, by their public calls: copies of the data of rule programs, and
-//! rows of bindings. What conditions accept and what runs come to, the program shows: that is in `cases/`.
+//! Tests of the crates that the engine is made of, by their public calls: copies of the data of rule programs, rows of
+//! bindings, runs of cores to their endings, and footprints. What conditions accept and what runs come to, the program
+//! shows where it can: that is in `cases/`.
 #![tactic(auto)]
 
 #[cfg(test)]
 mod bindings;
 #[cfg(test)]
 mod copies;
+#[cfg(test)]
+mod footprints;
+#[cfg(test)]
+mod runs;
+#[cfg(test)]
+mod setting;
