@@ -1,5 +1,5 @@
 -- The promise decides each status, where no count of faults rose.
-use Rattle.std.proofs.Common.{inl, inr, refl}
+use Rattle.std.proofs.Common.{inr, refl}
 use Rattle.ops_command.specs.declared.status.Status.{Status}
 use Rattle.ops_command.specs.declared.status.Status.TheVariants as status
 use Rattle.ops_command.specs.declared.status.Report.{Report}

@@ -1,5 +1,5 @@
 -- Where no count of faults rose, what is said of the words is decided by them and the files.
-use Rattle.std.proofs.Common.{◌≡◌, ℕ, ◌+◌, ◌<◌, ◌≤◌, ◌⊎◌, inl, inr, Bool, true, not, List, [], ◌∷◌, Option, None, Some, Result, Ok, Err, length, slice_get, option_and_then, refl, sym, ap, ◌∙◌, subst, arith}
+use Rattle.std.proofs.Common.{◌≡◌, ℕ, ◌<◌, ◌≤◌, inl, inr, List, Option, None, Some, Result, Ok, Err, length, refl, sym, ap, ◌∙◌, subst, arith}
 use Rattle.rule_base.specs.declared.program.Program.{Program}
 use Rattle.ops_text.specs.Names.{Names}
 use Rattle.ops_text.specs.Faults.{Rose}

@@ -1,5 +1,5 @@
 -- Endings as the command tells them: the status of each, and its words in the report.
-use Rattle.std.specs.Prelude.{ℕ, List, ◌++◌, codes, decimal, map, slice_get}
+use Rattle.std.specs.Prelude.{ℕ, List, ◌++◌, codes, decimal, slice_get}
 use Rattle.std.specs.Option.{option_map_or}
 use Rattle.rule_base.specs.declared.program.Rule.{Rule}
 use Rattle.rule_base.specs.declared.program.Program.{Program}

@@ -1,5 +1,5 @@
 -- Lawful bases: an opening has one, and a run from one leaves one.
-use Rattle.std.proofs.Common.{◌≡◌, ℕ, ◌+◌, ◌^◌, ◌<◌, ◌≤◌, List, [], ◌∷◌, ◌++◌, length, Option, Some, None, not, ◌==◌, refl, sym, ◌∙◌, ap, subst, arith}
+use Rattle.std.proofs.Common.{◌≡◌, ℕ, ◌+◌, ◌^◌, ◌<◌, ◌≤◌, List, [], ◌∷◌, ◌++◌, length, Some, not, ◌==◌, sym, ap, subst, arith}
 use Rattle.std.specs.List.{AllByRecursion, IsDistinct, list_any}
 use Rattle.rule_base.specs.declared.change.Change.{Change}
 use Rattle.rule_base.specs.declared.change.Change.TheVariants.{Remove, Make}

@@ -1,6 +1,6 @@
 -- Elements in flat arrays: values that are added hide none, and places that are left or moved lead to their elements.
 use Rattle.std.proofs.Common.{◌≡◌, ℕ, ◌+◌, ◌≤◌, ◌==◌, List, [], ◌∷◌, ◌++◌, Bool, true, false, cond, not, length, map, drop, take, zero, suc, refl, sym, ◌∙◌, ap, subst, arith, length-append}
-use Rattle.std.specs.List.{AllByRecursion, filter, list_any}
+use Rattle.std.specs.List.{list_any}
 use Rattle.std.proofs.lemmas.List.{map-append}
 use Rattle.rule_base.specs.declared.value.Value.{Value}
 use Rattle.rule_base.specs.declared.element.Element.{Element}

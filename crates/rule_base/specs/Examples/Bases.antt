@@ -1,5 +1,5 @@
 -- Runs under both refractions, runs that begin from a base, and bases that are no lawful ones.
-use Rattle.std.specs.Prelude.{◌≡◌, ℕ, ◌+◌, ◌^◌, List, [], ◌∷◌, ◌++◌, Bool, true, false, Option, Some, None, option_map, IsSomeAnd}
+use Rattle.std.specs.Prelude.{◌≡◌, ℕ, List, [], ◌∷◌, ◌++◌, Bool, true, false, Option, Some, None, option_map, IsSomeAnd}
 use Rattle.rule_base.specs.declared.value.Value.TheVariants.{Sym}
 use Rattle.rule_base.specs.declared.instantiation.Choice.{Choice}
 use Rattle.rule_base.specs.declared.action.Term.TheVariants.{Con}

@@ -1,7 +1,6 @@
 -- A refusal's plan has the status that is refused with.
 use Rattle.std.proofs.Common.{sym, ap, subst}
-use Rattle.std.proofs.lemmas.Result.{IfOk-weaker}
-use Rattle.ops_command.specs.Account.{Account, account_of, refusal}
+use Rattle.ops_command.specs.Account.{Account}
 use Rattle.ops_command.specs.FileBytes.{HidesNoReadFault}
 use Rattle.ops_command.proofs.ResultLemmas.{IfOk-map}
 use Rattle.ops_command.proofs.plan.plan_words.Goals as goal

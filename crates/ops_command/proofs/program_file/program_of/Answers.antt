@@ -1,5 +1,5 @@
 -- Forms that are read are those of the text.
-use Rattle.std.proofs.Common.{length, inr, ap, ◌∙◌, subst, arith}
+use Rattle.std.proofs.Common.{length, ap, subst, arith}
 use Rattle.ops_text.specs.Names.{Names}
 use Rattle.ops_tokens.specs.Tokens.{tokens_of}
 use Rattle.ops_reader.specs.Grammar.{IsText}

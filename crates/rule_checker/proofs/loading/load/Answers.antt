@@ -1,8 +1,6 @@
 -- The elements of makes are an opening.
-use Rattle.std.proofs.Common.{◌+◌, drop, sym, ap, ◌∙◌, subst}
+use Rattle.std.proofs.Common.{◌+◌, drop, sym, ap, ◌∙◌}
 use Rattle.std.proofs.lemmas.List.{at_drop_all}
-use Rattle.rule_base.specs.Sound.{sizes_of}
-use Rattle.rule_base.specs.Opening.{IsOpening}
 use Rattle.rule_checker.specs.Forms.{after_forms}
 use Rattle.rule_checker.specs.Opening.{with_initial}
 use Rattle.rule_checker.proofs.OpeningLemmas.{opening_list-IsOpening}

@@ -1,6 +1,6 @@
 -- The places that are left, and then the others behind them.
-use Rattle.std.proofs.Common.{◌≡◌, ◌++◌, length, map, rules, subst}
-use Rattle.rule_base.specs.Places.{elements_in, places_without, moved_by}
+use Rattle.std.proofs.Common.{◌≡◌, ◌++◌, rules, subst}
+use Rattle.rule_base.specs.Places.{elements_in}
 use Rattle.rule_base.specs.Step.{without}
 use Rattle.rule_base.proofs.PlaceLemmas.{AreWithin-changed, elements_in-changed}
 use Rattle.rule_base.proofs.elements.Elements.change.Goals as goal

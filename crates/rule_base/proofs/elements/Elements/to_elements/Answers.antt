@@ -1,5 +1,5 @@
 -- One element more.
-use Rattle.std.proofs.Common.{◌∷◌, [], ◌++◌, rules, sym, ◌∙◌, ap}
+use Rattle.std.proofs.Common.{◌∷◌, [], ◌++◌, sym, ◌∙◌, ap}
 use Rattle.rule_base.specs.Views.{element_in}
 use Rattle.rule_base.proofs.StepByStepLemmas.{take_next}
 use Rattle.rule_base.proofs.elements.Elements.to_elements.Goals as goal
