@@ -99,7 +99,7 @@ fn a_call_has_the_status_that_it_tells(rt: HostRuntime) -> Result<(), Fail> {
             &["run", "p"],
             "(literalize a x)(make a ^x 1)(p r (a ^x <v>) --> (write no) (bind <w> (compute <v> // 0)))",
             "",
-            "Fault { choice: Choice { rule: 0, tags: [1] }, action: 2, cause: DivideByZero }",
+            "Fault { choice: Choice { rule: 0, tags: Sequence { elements: [1] } }, action: 2, cause: DivideByZero }",
             "; fault, rule r, action 2, divide by zero, tags 1, firings 0, elements 1, next 2\n",
         ),
         (
