@@ -3,8 +3,8 @@ use Rattle.std.proofs.Common.{◌≡◌, ℕ, ◌+◌, ◌<◌, ◌≤◌, List,
 use Rattle.rule_base.specs.declared.value.Value.{Value}
 use Rattle.rule_base.specs.declared.element.Element.{Element}
 use Rattle.std.proofs.lemmas.List.Sums.{sum_by-cons}
-use Rattle.rule_base.specs.Memory.{element_at}
-use Rattle.commit_journal.specs.Newborns.{numbered, value_count}
+use Rattle.rule_base.specs.Memory.{element_at, value_count}
+use Rattle.commit_journal.specs.Newborns.{numbered}
 
 -- the element with this tag, this class and these values
 abbrev pub element : ℕ → ℕ → List Value → Element

@@ -1,19 +1,13 @@
 -- The elements that a run makes, with consecutive tags.
-use Rattle.std.specs.Prelude.{ℕ, ◌+◌, List, [], ◌∷◌, length}
-use Rattle.std.specs.List.{sum_by}
+use Rattle.std.specs.Prelude.{ℕ, ◌+◌, List, [], ◌∷◌}
 use Rattle.rule_base.specs.declared.value.Value.{Value}
 use Rattle.rule_base.specs.declared.element.Element.{Element}
-use Rattle.rule_base.specs.Memory.{Memory}
 
 -- the elements with these classes and values, and with consecutive tags from this one on
 abbrev pub numbered : ℕ → List ℕ → List (List Value) → List Element
 numbered tag [] lists = []
 numbered tag (class ∷ classes) [] = []
 numbered tag (class ∷ classes) (values ∷ lists) = record { tag = tag; class = class; values = values } ∷ numbered (tag + 1) classes lists
-
--- how many values the elements have together
-abbrev pub value_count : Memory → ℕ
-value_count elements = sum_by (λ (e : Element). length e.values) elements
 
 -- elements, the tag of the next one, for how many more there is room, and for how many more values of theirs
 pub record Made : Type 0 where

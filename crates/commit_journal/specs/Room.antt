@@ -1,9 +1,8 @@
 -- Room: what a journal can take in without memory.
 use Rattle.std.specs.Prelude.{ℕ, ◌-◌, ◌≤◌, List, length, max}
 use Rattle.rule_base.specs.declared.change.Piece.{Piece}
-use Rattle.rule_base.specs.Memory.{Memory}
+use Rattle.rule_base.specs.Memory.{Memory, value_count}
 use Rattle.commit_journal.specs.declared.room.Room.{Room}
-use Rattle.commit_journal.specs.Newborns.{value_count}
 
 -- what an entry with these tags, removed tags, born elements and pieces needs
 abbrev pub room_for : List ℕ → List ℕ → Memory → List Piece → Room

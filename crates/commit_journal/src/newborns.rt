@@ -2,10 +2,9 @@
 //! tag at once.
 
 ghost use Rattle.std.specs.Prelude.{◌≡◌, ◌+◌, ◌^◌, ◌<◌, ◌≤◌, [], ◌∷◌, ◌++◌, ◌↔◌, IfOk, IsTrue, OnOk, Some, drop, length, option_map, slice_get, take};
-ghost use Rattle.rule_base.specs.Memory.{element_at, tags_of};
+ghost use Rattle.rule_base.specs.Memory.{element_at, tags_of, value_count};
 ghost use Rattle.rule_base.specs.Opening.{AreConsecutive};
 ghost use Rattle.rule_base.specs.Views.{element_in};
-ghost use Rattle.commit_journal.specs.Newborns.{value_count};
 
 use crate::lists::{Lists, part};
 use ops_text::OutOfMemory;

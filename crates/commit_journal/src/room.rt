@@ -2,7 +2,7 @@
 
 ghost use Rattle.std.specs.Prelude.{◌≡◌, ◌+◌, IfOk, length};
 ghost use Rattle.commit_journal.specs.Room.{FitsIn, larger_room, room_for, room_without};
-ghost use Rattle.commit_journal.specs.Newborns.{value_count};
+ghost use Rattle.rule_base.specs.Memory.{value_count};
 
 use ops_text::OutOfMemory;
 use rule_base::{Elements, Piece};

@@ -8,6 +8,12 @@ use rule_base::{ElementView, Elements, Piece, Refraction, Value};
 use std::alloc::Global;
 use std::test::Fail;
 
+const FIRST: &str =
+    "2 Some(Entry { choice: Choice { rule: 0, tags: Sequence { elements: [2, 3] } }, \
+    changes: Sequence { elements: [Gone(3), \
+    Born(Element { tag: 5, class: 3, values: Sequence { elements: [Int(7)] } })] }, \
+    pieces: Sequence { elements: [Put(Int(12))] }, halts: false })";
+
 /// Takes an entry in that makes one element, which gets the next tag.
 fn record(
     alloc: Global,
@@ -59,6 +65,13 @@ fn last_is_right(alloc: Global, journal: &Journal) -> Result<bool, OutOfMemory> 
     Ok(is_found && last.len() == 1 && last.next() == 7 && last.born(5).is_none())
 }
 
+/// The first entry as a value of its own: its choice, what it took away and made, and what it wrote.
+fn first_in_words(alloc: Global, journal: &Journal) -> Result<String, OutOfMemory> {
+    let entries = journal.to_entries(alloc)?;
+    let first = entries.as_slice().first();
+    format!(in alloc; "{} {first:?}", entries.len())
+}
+
 #[test]
 fn two_entries_are_told(rt: HostRuntime) -> Result<(), Fail> {
     let alloc = rt.alloc();
@@ -66,8 +79,10 @@ fn two_entries_are_told(rt: HostRuntime) -> Result<(), Fail> {
     let taken = record_two(alloc, &mut journal);
     let texts = texts_are_right(alloc, &journal);
     let last = last_is_right(alloc, &journal);
+    let first = first_in_words(alloc, &journal);
     assert!(rt; taken.is_ok() && journal.len() == 2);
     assert!(rt; matches!(texts, Ok(true)));
     assert!(rt; matches!(last, Ok(true)));
+    assert_eq!(rt; first?.as_str(), FIRST);
     Ok(())
 }

@@ -1,5 +1,5 @@
 //! Tests of the crates that the engine is made of, by their public calls: copies of the data of rule programs, rows of
-//! bindings, runs of cores to their endings, and footprints. What conditions accept and what runs come to, the program
+//! bindings, effects of firings, runs of cores to their endings, and footprints. What conditions accept and what runs come to, the program
 //! shows where it can: that is in `cases/`.
 #![tactic(auto)]
 
@@ -7,6 +7,8 @@
 mod bindings;
 #[cfg(test)]
 mod copies;
+#[cfg(test)]
+mod effects;
 #[cfg(test)]
 mod footprints;
 #[cfg(test)]

@@ -69,12 +69,6 @@ has_read program memory c rule has at =
     some_same : {A : Type 0} {a b : A} → Some a ≡ Some b → a ≡ b
     some_same e = cc
 
--- the elements that changes make have consecutive tags
-pub AreConsecutive-born : (next : ℕ) (changes : List Change) → AreConsecutive next (tags_of (born next changes))
-AreConsecutive-born next [] = tt
-AreConsecutive-born next (Remove tag ∷ changes) = AreConsecutive-born next changes
-AreConsecutive-born next (Make class values ∷ changes) = (refl, AreConsecutive-born (next + 1) changes)
-
 -- two states with the same parts are the same
 pub same_state : (s t : State) → s.memory ≡ t.memory → s.next ≡ t.next → s.fired ≡ t.fired → s.entries ≡ t.entries → s.halted ≡ t.halted → s.refraction ≡ t.refraction → s ≡ t
 same_state s t memory next fired entries halted refraction =

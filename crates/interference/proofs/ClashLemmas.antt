@@ -1,9 +1,8 @@
 -- Which demands a clash comes from, and why those of rules that may not interfere are of two tags on one stripe.
-use Rattle.std.proofs.Common.{◌≡◌, ℕ, zero, suc, ◌+◌, ◌<◌, List, [], ◌∷◌, ◌++◌, Bool, true, false, cond, not, ◌||◌, Option, Some, None, ◌⊎◌, inl, inr, filter_map, flat_map, length, map, option_to_list, slice_get, zip, ◌==◌, refl, sym, ◌∙◌, ap, subst, arith, true≢false}
+use Rattle.std.proofs.Common.{◌≡◌, ℕ, zero, suc, ◌<◌, List, [], ◌∷◌, ◌++◌, Bool, true, false, cond, not, ◌||◌, Option, Some, None, ◌⊎◌, inl, inr, filter_map, flat_map, length, map, option_to_list, slice_get, ◌==◌, refl, sym, ◌∙◌, ap, subst, arith, true≢false}
 use Rattle.std.specs.List.{AllByRecursion, cons_option, list_any, range_with_len}
 use Rattle.std.specs.Option.{option_map_or}
 use Rattle.std.proofs.lemmas.Bool.Decides.{Decides-eqb}
-use Rattle.std.proofs.lemmas.Nat.{mod_below}
 use Rattle.rule_base.specs.declared.lock.Mode.{Mode}
 use Rattle.rule_base.specs.declared.lock.Mode.TheVariants.{Watch, Grow, Own}
 use Rattle.rule_base.specs.declared.value.Value.{Value}
@@ -24,16 +23,16 @@ use Rattle.rule_base.proofs.EachLemmas.{Each-filter, Each-slice_get}
 use Rattle.interference.specs.Modes.{asks, both, goes, joined}
 use Rattle.interference.specs.Locks.{region, stripe}
 use Rattle.interference.specs.Given.{negated, positive, taken, value_at}
-use Rattle.interference.specs.Regions.{grown_regions, known_after, region_locks, regions_by, regions_of_value, watched_regions}
+use Rattle.interference.specs.Regions.{grown_regions, known_after, region_locks, regions_by, watched_regions}
 use Rattle.interference.specs.Splits.{split_of, splits_of}
 use Rattle.interference.specs.Footprint.{designated_demands, designators, footprint, in_mode, made_demands, matched_demands, negated_demands}
 use Rattle.interference.specs.PhantomLaw.{ClashIn, with_elements}
 use Rattle.interference.specs.MayInterfere.{class_at, class_demands, classes_disagree, classes_of, disagree, grown_classes, may_interfere, rules_interfere, takes_from}
 use Rattle.interference.specs.FootprintLaws.{ShareStripe}
-use Rattle.interference.proofs.ListLemmas.{Among-append, Each-among, IsAmongOne-flat_map}
+use Rattle.interference.proofs.ListLemmas.{Among-append, Each-among, IsAmongOne-flat_map, zip-first}
 use Rattle.interference.proofs.ModeLemmas.{IsCovered-among, goes-symmetric}
 use Rattle.interference.proofs.BindingLemmas.{IsAccepted-accepts}
-use Rattle.interference.proofs.RegionLemmas.{Among-range, bucket_below}
+use Rattle.interference.proofs.RegionLemmas.{Among-range, region_below, stripe_below}
 use Rattle.interference.proofs.WalkLemmas.{Walks, WalksBy}
 use Rattle.interference.proofs.MatchedLemmas.{IsMatch-matches, IsMatched-match_of, matches-listed}
 use Rattle.interference.proofs.DemandCodeLemmas.{length-sizes, within_by_get}
@@ -128,22 +127,6 @@ record OfRegion (rule : Rule) (lock : ℕ) (mode : Mode) : Type 0 where
   is : lock ≡ region class number
   asked : Among (class, mode) (class_demands rule)
 
-range_below : (first count n : ℕ) → Among n (range_with_len first count) → n < first + count
-range_below first zero n among = absurd among
-range_below first (suc count) n (inl same) = omega (arith, same)
-range_below first (suc count) n (inr later) = omega (arith, range_below (first + 1) count n later)
-
--- the numbers of regions are below 16
-value_below : (o : Option Value) (n : ℕ) → Among n (regions_of_value o) → n < 16
-value_below None n among = omega (arith, range_below 0 16 n among)
-value_below (Some value) n (inl same) = omega (arith, same, bucket_below value)
-value_below (Some value) n (inr never) = absurd never
-
-region_below : (split : Option ℕ) (known : ℕ → Option Value) (n : ℕ) → Among n (regions_by split known) → n < 16
-region_below None known n (inl same) = omega (arith, same)
-region_below None known n (inr never) = absurd never
-region_below (Some attr) known n among = value_below (known attr) n among
-
 -- a demand in one mode
 of_mode : (m x : Mode) (lock : ℕ) (locks : List ℕ) → Among (lock, x) (in_mode m locks) → (x ≡ m) × Among lock locks
 of_mode m x lock locks among =
@@ -178,12 +161,6 @@ slice_get-map : {X Y : Type 0} (f : X → Y) (xs : List X) (i : ℕ) (x : X) →
 slice_get-map f [] i x is = absurd (let wrong : ⊥ = cc in wrong)
 slice_get-map f (y ∷ xs) zero x is = let same : y ≡ x = cc in ap (λ z. Some (f z)) same
 slice_get-map f (y ∷ xs) (suc i) x is = slice_get-map f xs i x is
-
-zip-first : {X Y : Type 0} (xs : List X) (ys : List Y) (i : ℕ) (p : X × Y) → slice_get (zip xs ys) i ≡ Some p → slice_get xs i ≡ Some p.0
-zip-first [] ys i p is = absurd (let wrong : ⊥ = cc in wrong)
-zip-first (x ∷ xs) [] i p is = absurd (let wrong : ⊥ = cc in wrong)
-zip-first (x ∷ xs) (y ∷ ys) zero p is = let same : (x, y) ≡ p = cc in ap (λ (q : _ × _). Some q.0) same
-zip-first (x ∷ xs) (y ∷ ys) (suc i) p is = zip-first xs ys i p is
 
 -- a region that an action grows is of a class of which it makes an element
 record IsGrownOf (rule : Rule) (a : Action) (lock : ℕ) : Type 0 where
@@ -407,9 +384,6 @@ Apart-rules program one other a b at at_other never =
     ∙ ap (λ o. option_map_or (λ (q : Rule). rules_interfere count one q) o false) at_other) ∙ never in
     let three = three_false (classes_disagree count one other) (takes_from one other) (takes_from other one) is in
     record { classes = three.0; one_takes = three.1.0; other_takes = three.1.1 }
-
-stripe_below : (tag : ℕ) → stripe tag < 1024
-stripe_below tag = mod_below tag 1024 (omega arith)
 
 share : (lock : ℕ) (one other : List ℕ) (tag beside : ℕ) → Among tag one → Among beside other → lock ≡ stripe tag → lock ≡ stripe beside → (tag ≡ beside → ⊥) → ShareStripe lock one other
 share lock one other tag beside of_one of_other is is_too differ = record {

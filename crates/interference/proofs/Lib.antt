@@ -18,4 +18,5 @@ pub mod FindingLemmas
 pub mod SplitLemmas
 pub mod DemandCodeLemmas
 pub mod RuleLemmas
+pub mod LockLemmas
 pub mod ClashLemmas

@@ -1,5 +1,5 @@
 -- Members of lists that are joined, and lists of numbers in which none stands twice.
-use Rattle.std.proofs.Common.{◌≡◌, ℕ, List, [], ◌∷◌, ◌++◌, Bool, true, false, ◌||◌, ◌⊎◌, inl, inr, nat_eq, ◌==◌, refl, sym, ◌∙◌, subst, true≢false}
+use Rattle.std.proofs.Common.{◌≡◌, ℕ, List, [], ◌∷◌, ◌++◌, Bool, true, false, ◌||◌, ◌⊎◌, inl, inr, nat_eq, ◌==◌, refl, sym, ◌∙◌, subst, true≢false, slice_get, zip, Some, zero, suc, ap}
 use Rattle.std.specs.List.{AllByRecursion, IsDistinct, flat_map, list_any}
 use Rattle.std.proofs.lemmas.Bool.Decides.{Decides-eqb}
 use Rattle.rule_base.proofs.AmongLemmas.{Among, Among-append_left, Among-append_right, Among-flat_map}
@@ -90,3 +90,10 @@ one_source f (z ∷ xs) x y n distinct (inl is_x) (inr of_y) by_x by_y =
 one_source f (z ∷ xs) x y n distinct (inr of_x) (inl is_y) by_x by_y =
     absurd (distinct_apart (f z) (flat_map f xs) n distinct (subst (λ w. Among n (f w)) is_y by_y) (Among-flat_map f x n xs of_x by_x))
 one_source f (z ∷ xs) x y n distinct (inr of_x) (inr of_y) by_x by_y = one_source f xs x y n (distinct_back (f z) (flat_map f xs) distinct) of_x of_y by_x by_y
+
+-- the first of a pair at a place is at that place
+pub zip-first : {X Y : Type 0} (xs : List X) (ys : List Y) (i : ℕ) (p : X × Y) → slice_get (zip xs ys) i ≡ Some p → slice_get xs i ≡ Some p.0
+zip-first [] ys i p is = absurd (let wrong : ⊥ = cc in wrong)
+zip-first (x ∷ xs) [] i p is = absurd (let wrong : ⊥ = cc in wrong)
+zip-first (x ∷ xs) (y ∷ ys) zero p is = let same : (x, y) ≡ p = cc in ap (λ (q : _ × _). Some q.0) same
+zip-first (x ∷ xs) (y ∷ ys) (suc i) p is = zip-first xs ys i p is

@@ -5,7 +5,7 @@ use Rattle.std.proofs.lemmas.Nat.{mod_below}
 use Rattle.rule_base.specs.declared.value.Value.{Value}
 use Rattle.rule_base.specs.declared.value.Value.TheVariants.{Int, Sym}
 use Rattle.rule_base.proofs.AmongLemmas.{Among}
-use Rattle.interference.specs.Locks.{bucket, every_region}
+use Rattle.interference.specs.Locks.{bucket, every_region, stripe}
 use Rattle.interference.specs.Regions.{regions_by, regions_of_value}
 
 -- a bucket is one of 16
@@ -13,6 +13,10 @@ pub bucket_below : (value : Value) → bucket value < 16
 bucket_below (Int (pos n)) = mod_below n 16 (omega arith)
 bucket_below (Int (negsuc n)) = omega (arith, mod_below n 16 (omega arith))
 bucket_below (Sym n) = mod_below n 16 (omega arith)
+
+-- a stripe is one of 1,024
+pub stripe_below : (tag : ℕ) → stripe tag < 1024
+stripe_below tag = mod_below tag 1024 (omega arith)
 
 -- the numbers of a range
 pub first_or_later : (first n : ℕ) → first ≤ n → (n ≡ first) ⊎ (first + 1 ≤ n)
@@ -32,6 +36,22 @@ of_range first count n rest (inr later) = inr (rest later)
 pub Among-range : (first count n : ℕ) → first ≤ n → n < first + count → Among n (range_with_len first count)
 Among-range first zero n from below = absurd (omega (arith, from, below))
 Among-range first (suc count) n from below = of_range first count n (λ later. Among-range (first + 1) count n later (omega (arith, below))) (first_or_later first n from)
+
+pub range_below : (first count n : ℕ) → Among n (range_with_len first count) → n < first + count
+range_below first zero n among = absurd among
+range_below first (suc count) n (inl same) = omega (arith, same)
+range_below first (suc count) n (inr later) = omega (arith, range_below (first + 1) count n later)
+
+-- so the numbers of regions are below 16
+pub value_below : (o : Option Value) (n : ℕ) → Among n (regions_of_value o) → n < 16
+value_below None n among = omega (arith, range_below 0 16 n among)
+value_below (Some value) n (inl same) = omega (arith, same, bucket_below value)
+value_below (Some value) n (inr never) = absurd never
+
+pub region_below : (split : Option ℕ) (known : ℕ → Option Value) (n : ℕ) → Among n (regions_by split known) → n < 16
+region_below None known n (inl same) = omega (arith, same)
+region_below None known n (inr never) = absurd never
+region_below (Some attr) known n among = value_below (known attr) n among
 
 bucket_is_region : (value : Value) → Among (bucket value) every_region
 bucket_is_region value = Among-range 0 16 (bucket value) (omega arith) (omega (arith, bucket_below value))

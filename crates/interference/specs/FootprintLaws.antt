@@ -1,15 +1,17 @@
 -- Laws of footprints: what they ask and in which order, and what it means that two rules may not interfere.
-use Rattle.std.specs.Prelude.{◌≡◌, ℕ, List, Bool, true, false, map, ◌==◌}
-use Rattle.std.specs.List.{list_any}
+use Rattle.std.specs.Prelude.{◌≡◌, ◌<◌, ℕ, List, Bool, true, false, length, map, ◌==◌}
+use Rattle.std.specs.List.{AllByRecursion, list_any}
 use Rattle.rule_base.specs.declared.lock.Mode.{Mode}
 use Rattle.rule_base.specs.declared.instantiation.Choice.{Choice}
+use Rattle.rule_base.specs.declared.instantiation.Candidate.{Candidate}
 use Rattle.rule_base.specs.declared.program.Program.{Program}
+use Rattle.rule_base.specs.Fits.{Fits}
 use Rattle.rule_base.specs.Memory.{Memory, Rises, tags_of}
 use Rattle.rule_base.specs.Sound.{IsSound}
 use Rattle.rule_base.specs.Step.{is_listed}
 use Rattle.interference.specs.Modes.{asks}
-use Rattle.interference.specs.Locks.{stripe}
-use Rattle.interference.specs.Footprint.{gathered}
+use Rattle.interference.specs.Locks.{lock_count, stripe}
+use Rattle.interference.specs.Footprint.{footprint, gathered}
 use Rattle.interference.specs.PhantomLaw.{ClashIn}
 use Rattle.interference.specs.MayInterfere.{may_interfere}
 
@@ -20,6 +22,14 @@ GatheredAskTheSame = (demands : List (ℕ × Mode)) (lock : ℕ) → asks (gathe
 -- and their locks rise, so that each stands there once
 abbrev pub GatheredRise : Type 0
 GatheredRise = (demands : List (ℕ × Mode)) → Rises (map (λ (d : ℕ × Mode). d.0) (gathered demands))
+
+-- each lock of a footprint is one that there is
+abbrev pub FootprintsAreInRange : Type 0
+FootprintsAreInRange = (program : Program) (candidate : Candidate) → IsSound program → AllByRecursion (λ (d : ℕ × Mode). d.0 < lock_count) (footprint program candidate)
+
+-- and a candidate of the program asks for one at least
+abbrev pub FootprintsAreNotEmpty : Type 0
+FootprintsAreNotEmpty = (program : Program) (candidate : Candidate) → IsSound program → Fits program candidate → 0 < length (footprint program candidate)
 
 -- whether a tag is among these
 abbrev pub is_tag_of : List ℕ → ℕ → Bool

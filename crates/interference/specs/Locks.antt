@@ -21,3 +21,7 @@ bucket (Sym n) = n % 16
 -- the numbers of all regions of a class
 abbrev pub every_region : List ℕ
 every_region = range_with_len 0 16
+
+-- how many locks there are: 5,120
+abbrev pub lock_count : ℕ
+lock_count = 1024 + 16 * 256

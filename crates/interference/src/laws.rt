@@ -1,7 +1,7 @@
 //! Laws of footprints. Each function here does nothing: its contract is the law.
 
 ghost use Rattle.interference.specs.PhantomLaw.{FiringsDontDisturb};
-ghost use Rattle.interference.specs.FootprintLaws.{GatheredAskTheSame, GatheredRise, OnlyStripesClash};
+ghost use Rattle.interference.specs.FootprintLaws.{FootprintsAreInRange, FootprintsAreNotEmpty, GatheredAskTheSame, GatheredRise, OnlyStripesClash};
 
 /// Of two instantiations whose footprints don't clash, neither disturbs the other by firing.
 pub fn firings_dont_disturb()
@@ -12,6 +12,12 @@ pub fn firings_dont_disturb()
 pub fn footprints_are_gathered()
     ensures asks { GatheredAskTheSame }
     ensures rise { GatheredRise }
+{}
+
+/// A footprint asks for locks that there are, and for one at least.
+pub fn footprints_are_of_locks()
+    ensures in_range { FootprintsAreInRange }
+    ensures not_empty { FootprintsAreNotEmpty }
 {}
 
 /// Instantiations of rules that may not interfere clash at most because different tags share a stripe.

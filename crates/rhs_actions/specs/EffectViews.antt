@@ -1,7 +1,5 @@
--- What contracts see of an effect: one that does nothing, the change that a view shows, and how many values elements have.
-use Rattle.std.specs.Prelude.{ℕ, List, [], false, length}
-use Rattle.std.specs.List.{sum_by}
-use Rattle.rule_base.specs.declared.element.Element.{Element}
+-- What contracts see of an effect: one that does nothing, and the change that a view shows.
+use Rattle.std.specs.Prelude.{[], false}
 use Rattle.rule_base.specs.declared.change.Change.{Change}
 use Rattle.rule_base.specs.declared.change.Change.TheVariants as change
 use Rattle.rule_base.specs.Effect.{Effect}
@@ -16,7 +14,3 @@ no_effect = record { changes = []; pieces = []; halts = false }
 abbrev pub change_in : ChangeView → Change
 change_in (view.Remove tag) = change.Remove tag
 change_in (view.Make class values) = change.Make class values.now
-
--- how many values the elements have, together
-abbrev pub value_count : List Element → ℕ
-value_count elements = sum_by (λ (e : Element). length e.values) elements

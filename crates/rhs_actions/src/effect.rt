@@ -8,7 +8,8 @@ ghost use Rattle.rule_base.specs.Term.{after_sets};
 ghost use Rattle.rule_base.specs.Effect.{is_gone, modified};
 ghost use Rattle.rule_base.specs.Step.{born};
 ghost use Rattle.rhs_actions.specs.EffectPlaces.{IsWithin, change_of, changes_in, sizes_of};
-ghost use Rattle.rhs_actions.specs.EffectViews.{change_in, no_effect, value_count};
+ghost use Rattle.rule_base.specs.Memory.{value_count};
+ghost use Rattle.rhs_actions.specs.EffectViews.{change_in, no_effect};
 ghost use Rattle.rhs_actions.specs.Refusals.{Tells};
 ghost use Rattle.rhs_actions.specs.Acting.{made, reached, removed, halted, written};
 

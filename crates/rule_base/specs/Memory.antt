@@ -1,6 +1,6 @@
 -- Working memory: a list of elements with rising time tags.
 use Rattle.std.specs.Prelude.{◌≡◌, ℕ, ◌<◌, List, [], ◌∷◌, length, map, Option, Some, slice_get, find, ◌==◌}
-use Rattle.std.specs.List.{AllByRecursion, filter_map}
+use Rattle.std.specs.List.{AllByRecursion, filter_map, sum_by}
 use Rattle.rule_base.specs.declared.element.Element.{Element}
 
 abbrev pub Memory : Type 0
@@ -17,6 +17,10 @@ element_at memory tag = find (λ (e : Element). e.tag == tag) memory
 -- the elements with these tags, in the tags' order; a tag that is not there is passed over
 abbrev pub elements_at : Memory → List ℕ → List Element
 elements_at memory tags = filter_map (element_at memory) tags
+
+-- how many values the elements have, together
+abbrev pub value_count : Memory → ℕ
+value_count memory = sum_by (λ (e : Element). length e.values) memory
 
 -- numbers that rise strictly, each above the one before it and the first above this one
 abbrev pub RisesFrom : ℕ → List ℕ → Type 0

@@ -2,7 +2,7 @@
 use Rattle.std.proofs.Common.{◌≡◌, ◌+◌, ◌∙◌, ap, arith, drop, length, rules}
 use Rattle.rule_base.specs.Views.{element_in}
 use Rattle.rule_base.proofs.StepByStepLemmas.{drop_next}
-use Rattle.commit_journal.specs.Newborns.{value_count}
+use Rattle.rule_base.specs.Memory.{value_count}
 use Rattle.commit_journal.proofs.NumberedLemmas.{value_count-cons}
 use Rattle.commit_journal.proofs.room.value_count.Goals as goal
 

@@ -1,6 +1,6 @@
 -- The values so far.
 use Rattle.std.proofs.Common.{◌≡◌, ◌+◌, drop}
-use Rattle.commit_journal.specs.Newborns.{value_count}
+use Rattle.rule_base.specs.Memory.{value_count}
 use Rattle.commit_journal.proofs.room.value_count.Given as goal
 
 abbrev pub invariant-loop-at : goal.invariant-loop-at

@@ -1,10 +1,9 @@
 -- One element more.
 use Rattle.std.proofs.Common.{◌≡◌, ◌+◌, ◌<◌, ◌++◌, ◌∷◌, [], ◌∙◌, ap, arith, drop, length, rules, subst, sym, take, append_assoc}
-use Rattle.rule_base.specs.Memory.{tags_of}
+use Rattle.rule_base.specs.Memory.{tags_of, value_count}
 use Rattle.rule_base.specs.Opening.{AreConsecutive}
 use Rattle.rule_base.specs.Views.{element_in}
 use Rattle.rule_base.proofs.StepByStepLemmas.{drop_next, take_next}
-use Rattle.commit_journal.specs.Newborns.{value_count}
 use Rattle.commit_journal.proofs.NumberedLemmas.{value_count-cons}
 use Rattle.commit_journal.proofs.newborns.Newborns.extend.Goals as goal
 

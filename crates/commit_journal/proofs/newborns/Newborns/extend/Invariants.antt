@@ -1,8 +1,7 @@
 -- The elements so far have been added, and the tags of those that are left go on from there.
 use Rattle.std.proofs.Common.{◌≡◌, ◌+◌, ◌≤◌, ◌++◌, drop, take}
-use Rattle.rule_base.specs.Memory.{tags_of}
+use Rattle.rule_base.specs.Memory.{tags_of, value_count}
 use Rattle.rule_base.specs.Opening.{AreConsecutive}
-use Rattle.commit_journal.specs.Newborns.{value_count}
 use Rattle.commit_journal.proofs.newborns.Newborns.extend.Given as goal
 
 abbrev pub invariant-loop-at : goal.invariant-loop-at

@@ -5,12 +5,13 @@ use Rattle.rule_base.specs.Effect.{removed_tags}
 use Rattle.rule_base.specs.Opening.{AreConsecutive}
 use Rattle.rule_base.specs.State.{State, count}
 use Rattle.rule_base.specs.Step.{born, effect_of, entry_of, may_fire, memory_after, still_fired}
+use Rattle.commit_journal.proofs.CommitLemmas.{consecutive}
 use Rattle.firing_core.specs.CoreState.{CoreState}
 use Rattle.firing_core.specs.CoreFields.{core_in, state_in}
 use Rattle.firing_core.specs.declared.machine.Core.TheInside.{Inside}
 use Rattle.firing_core.specs.Kept.{IsKept}
 use Rattle.firing_core.proofs.LawfulLemmas.{IsKept-step, born_fit}
-use Rattle.firing_core.proofs.CommitLemmas.{AreConsecutive-born, step-committed}
+use Rattle.firing_core.proofs.CommitLemmas.{step-committed}
 use Rattle.firing_core.proofs.FieldLemmas.{state_in-forgotten}
 use Rattle.firing_core.proofs.KeptChoiceLemmas.{KeepFired-commit, KeepFired-forgotten, KeepFired-moved, fired_by-commit}
 use Rattle.firing_core.specs.KeptChoices.{fired_by, kept_after}
@@ -51,7 +52,7 @@ returns-in_err-change-clause-err c =
 pub push-requires-clause-tags : goal.push-requires-clause-tags
 push-requires-clause-tags c =
     let next : c.next-next.result ≡ c.reserve.new.self.next = c.next-next.ensures ∙ sym c.reserve.ensures.entries.1 in
-    subst (λ n. AreConsecutive n (tags_of c.in_ok-born.born)) next (subst (λ elements. AreConsecutive c.next-next.result (tags_of elements)) (sym c.in_ok-born.ensures) (AreConsecutive-born c.next-next.result c.args.effect.now.changes))
+    subst (λ n. AreConsecutive n (tags_of c.in_ok-born.born)) next (subst (λ elements. AreConsecutive c.next-next.result (tags_of elements)) (sym c.in_ok-born.ensures) (consecutive c.next-next.result c.args.effect.now.changes))
 
 pub invariant_of-self-2 : goal.invariant_of-self-2
 invariant_of-self-2 c =
