@@ -5,9 +5,11 @@ ghost use Rattle.std.specs.Prelude.{◌^◌, ◌<◌, length};
 ghost use Rattle.rule_base.specs.Sound.{IsSound};
 
 use crate::setting::{opening_of, program_of};
-use interference::{Splits, compatible, footprint, may_interfere, parts};
+use interference::{
+    Splits, admits, amount, compatible, first_busy, footprint, may_interfere, parts,
+};
 use ops_text::{OutOfMemory, Sequence};
-use rule_base::{Candidate, Choice, ElementView, Elements, Mode, Program};
+use rule_base::{Busy, Candidate, Choice, ElementView, Elements, Mode, Program};
 use std::alloc::Global;
 use std::test::Fail;
 
@@ -98,6 +100,29 @@ fn only_watches_or_only_makes_go_together(rt: HostRuntime) {
     for at in 0..3 {
         let row = modes.map(|other| compatible(modes[at], other));
         assert_eq!(rt; row, want[at], "{:?}", modes[at]);
+    }
+}
+
+#[test]
+fn words_leave_room_for_what_goes_together(rt: HostRuntime) {
+    let modes = [Mode::Watch, Mode::Grow, Mode::Own];
+    for one in modes {
+        let room = modes.map(|other| admits(amount(one), other));
+        let want = modes.map(|other| compatible(one, other));
+        assert_eq!(rt; room, want, "{one:?}");
+    }
+    let footprint = [(0, Mode::Watch), (1, Mode::Grow), (2, Mode::Own)];
+    let rows = [
+        ([0, 0, 0], None),
+        ([4095, 4095 << 20, 0], None),
+        ([4095, (4095 << 20) + 1, 1], Some((1, (4095 << 20) + 1))),
+        ([1 << 40, 1 << 40, 0], Some((0, 1 << 40))),
+        ([0, 0, 1], Some((2, 1))),
+    ];
+    for (words, want) in rows {
+        let busy = first_busy(words.as_slice(), footprint.as_slice());
+        let want = want.map(|(lock, word)| Busy { lock, word });
+        assert_eq!(rt; busy, want, "{words:?}");
     }
 }
 

@@ -19,4 +19,5 @@ pub mod SplitLemmas
 pub mod DemandCodeLemmas
 pub mod RuleLemmas
 pub mod LockLemmas
+pub mod WordLemmas
 pub mod ClashLemmas

@@ -14,6 +14,9 @@ pub mod MayInterfere
 pub mod Parts
 -- laws of footprints
 pub mod FootprintLaws
+-- what those who have taken a lock add up to
+pub mod Words
+pub mod WordLaws
 -- what the crate's functions promise each other
 pub mod Finding
 pub mod Counting

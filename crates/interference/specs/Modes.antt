@@ -4,7 +4,7 @@ use Rattle.rule_base.specs.declared.lock.Mode.{Mode}
 use Rattle.rule_base.specs.declared.lock.Mode.TheVariants.{Watch, Grow, Own}
 use Rattle.rule_base.specs.Chains.{only_if}
 
--- whether two firings may hold a lock in these modes side by side: many may watch, many may grow, and only one may own
+-- whether two firings may hold a lock in these modes side by side: many may watch, or many may grow, or one may own
 abbrev pub goes : Mode → Mode → Bool
 goes Watch Watch = true
 goes Watch Grow = false

@@ -1,6 +1,7 @@
 //! Laws of footprints. Each function here does nothing: its contract is the law.
 
 ghost use Rattle.interference.specs.PhantomLaw.{FiringsDontDisturb};
+ghost use Rattle.interference.specs.WordLaws.{WordsTellClashes};
 ghost use Rattle.interference.specs.FootprintLaws.{FootprintsAreInRange, FootprintsAreNotEmpty, GatheredAskTheSame, GatheredRise, OnlyStripesClash};
 
 /// Of two instantiations whose footprints don't clash, neither disturbs the other by firing.
@@ -14,7 +15,7 @@ pub fn footprints_are_gathered()
     ensures rise { GatheredRise }
 {}
 
-/// A footprint asks for locks that there are, and for one at least.
+/// A footprint asks for locks that there are, and for one at least where the candidate fits.
 pub fn footprints_are_of_locks()
     ensures in_range { FootprintsAreInRange }
     ensures not_empty { FootprintsAreNotEmpty }
@@ -23,4 +24,9 @@ pub fn footprints_are_of_locks()
 /// Instantiations of rules that may not interfere clash at most because different tags share a stripe.
 pub fn only_stripes_clash()
     ensures { OnlyStripesClash }
+{}
+
+/// The words of locks that few have taken leave room for a footprint exactly where it clashes with none of theirs.
+pub fn words_tell_clashes()
+    ensures { WordsTellClashes }
 {}
