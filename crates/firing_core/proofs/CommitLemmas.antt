@@ -1,14 +1,11 @@
 -- A firing of a choice: its rule, its effect, and the state that its commit makes.
-use Rattle.std.proofs.Common.{◌≡◌, ℕ, ◌+◌, List, [], ◌∷◌, ◌++◌, length, true, false, ◌||◌, Option, None, Some, Result, Ok, Err, IsSome, option_map, slice_get, get_or, is_ok, refl, sym, ◌∙◌, ap, subst, rules}
+use Rattle.std.proofs.Common.{◌≡◌, ℕ, ◌+◌, [], ◌∷◌, ◌++◌, length, true, false, ◌||◌, Option, None, Some, Result, Ok, Err, IsSome, option_map, slice_get, get_or, is_ok, refl, sym, ◌∙◌, ap, subst, rules}
 use Rattle.std.specs.Option.{option_map_or}
 use Rattle.std.proofs.lemmas.Option.{slice_get_read, slice_get_within}
-use Rattle.rule_base.specs.declared.change.Change.{Change}
-use Rattle.rule_base.specs.declared.change.Change.TheVariants.{Remove, Make}
 use Rattle.rule_base.specs.declared.instantiation.Choice.{Choice}
 use Rattle.rule_base.specs.declared.program.Program.{Program}
 use Rattle.rule_base.specs.declared.program.Rule.{Rule}
-use Rattle.rule_base.specs.Memory.{Memory, elements_at, tags_of}
-use Rattle.rule_base.specs.Opening.{AreConsecutive}
+use Rattle.rule_base.specs.Memory.{Memory, elements_at}
 use Rattle.rule_base.specs.Effect.{Effect, Failure, effect}
 use Rattle.rule_base.specs.Bindings.{Bindings}
 use Rattle.rule_base.specs.Match.{match_of}

@@ -1,5 +1,5 @@
 -- Lawful cores: a core at its base is one and ready for a firing, and a firing keeps it so.
-use Rattle.std.proofs.Common.{◌≡◌, ℕ, ◌+◌, ◌^◌, ◌<◌, ◌≤◌, [], ◌∷◌, ◌++◌, length, Some, Ok, option_and_then, slice_get, refl, ◌∙◌, ap, arith}
+use Rattle.std.proofs.Common.{◌≡◌, ℕ, ◌+◌, ◌^◌, ◌<◌, ◌≤◌, [], ◌∷◌, ◌++◌, length, None, Some, Ok, option_and_then, slice_get, refl, sym, ◌∙◌, ap, subst, arith}
 use Rattle.std.proofs.lemmas.List.{length_push, map_push}
 use Rattle.rule_base.specs.declared.entry.Entry.{Entry}
 use Rattle.rule_base.specs.declared.instantiation.Choice.{Choice}
@@ -21,14 +21,22 @@ use Rattle.rule_base.proofs.RunLemmas.{refraction-step}
 use Rattle.rule_base.proofs.MachineLemmas.{Each-elements_at, HasRule-effect_of, IsKeepingStep-sound}
 use Rattle.rule_base.proofs.StepLemmas.{IsStep-from_step, run-append}
 use Rattle.firing_core.specs.CoreState.{CoreState}
+use Rattle.firing_core.specs.Lawful.{IsEndingFault}
+use Rattle.firing_core.proofs.PairLemmas.{AreLawful-none}
 use Rattle.firing_core.specs.Kept.{IsKept}
 
-pub IsKept-start : (program : Program) (base : Base) (budget : ℕ) → IsSound program → IsLawfulBase program base → IsBudget budget → IsKept (record { program = program; base = base; budget = budget; state = start base })
+-- a core without a fault
+no_fault : (k : CoreState) → k.fault ≡ None → IsEndingFault k k.fault
+no_fault k none = subst (IsEndingFault k) (sym none) tt
+
+pub IsKept-start : (program : Program) (base : Base) (budget : ℕ) → IsSound program → IsLawfulBase program base → IsBudget budget → IsKept (record { program = program; base = base; budget = budget; state = start base; claims = []; given = 0; fault = None })
 IsKept-start program base budget sound began few = record {
-  lawful = record { sound = sound; began = began; ran = refl; within = omega arith; few = few };
+  lawful = record { sound = sound; began = began; ran = refl; within = omega arith; few = few; claims = record { held = tt; numbered = tt; together = tt; few_claims = omega arith; few_given = omega arith }; fault = tt };
   state = IsState-start program base began;
   next_is_low = omega (arith, began.few);
   refraction = refl;
+  no_claims = refl;
+  no_fault = refl;
 }
 
 -- a core whose budget is not used up is lawful and ready again after a step
@@ -49,10 +57,14 @@ IsKept-step k c after kept within steps =
         ran = ap (run k.program (start k.base)) choices_are ∙ run-append k.program (start k.base) (choices_of k.state.entries) (c ∷ []) ∙ ap (option_and_then (λ (s : State). run k.program s (c ∷ []))) lawful.ran ∙ last;
         within = omega (arith, counted);
         few = lawful.few;
+        claims = AreLawful-none (record k { state = after }) kept.no_claims lawful.claims.few_given;
+        fault = no_fault (record k { state = after }) kept.no_fault;
       };
       state = keeps.state;
       next_is_low = omega (arith, counted, keeps.near, kept.next_is_low);
       refraction = refraction-step k.program k.state c after steps ∙ kept.refraction;
+      no_claims = kept.no_claims;
+      no_fault = kept.no_fault;
     }
 
 -- the tags of the elements that a firing makes fit in 64 bits

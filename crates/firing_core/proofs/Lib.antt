@@ -11,3 +11,8 @@ pub mod FiringLemmas
 pub mod LawfulLemmas
 pub mod CommitLemmas
 pub mod FieldLemmas
+-- events
+pub mod PairLemmas
+pub mod FittingLemmas
+pub mod ClaimLemmas
+pub mod EventLemmas

@@ -1,4 +1,5 @@
 -- How a core's fields give what contracts see of it.
+use Rattle.std.specs.Prelude.{[], None}
 use Rattle.rule_base.specs.State.{State}
 use Rattle.firing_core.specs.declared.machine.Core.TheInside.{Inside}
 use Rattle.firing_core.specs.CoreState.{CoreState}
@@ -18,7 +19,15 @@ state_in core = record {
 
 -- the core that the fields hold
 abbrev pub core_in : Inside → CoreState
-core_in core = record { program = core.program.value; base = core.base; budget = core.budget; state = state_in core }
+core_in core = record {
+  program = core.program.value;
+  base = core.base;
+  budget = core.budget;
+  state = state_in core;
+  claims = [];
+  given = 0;
+  fault = None;
+}
 
 -- that core is lawful, and ready for its next firing
 pub record HoldsKept (core : Inside) : Type 0 where

@@ -25,6 +25,8 @@ IsNext k (Some c) = IsLeft k c
 pub record Fires (old new : CoreState) (c : Choice) : Type 0 where
   pub steps : step old.program old.state c ≡ Some new.state
   pub same : IsSameRun old new
+  pub claims : (new.claims ≡ old.claims) × (new.given ≡ old.given)
+  pub fault : new.fault ≡ old.fault
 
 -- a refusal to fire a choice tells its first failing action with the cause, or that memory is wanting
 pub record TellsFault (defined : Option (Result Effect Failure)) (refusal : EffectRefusal) : Type 0 where

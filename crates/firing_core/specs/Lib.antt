@@ -1,7 +1,11 @@
 -- what the public calls promise
 pub mod CoreState
+pub mod Refusals
+pub mod Events
 pub mod Lawful
 pub mod FinishedRun
+-- laws of events
+pub mod CoreLaws
 -- what the core's functions promise each other
 pub mod Matching
 pub mod Unfired
@@ -10,3 +14,5 @@ pub mod Turn
 pub mod Kept
 pub mod KeptChoices
 pub mod CoreFields
+-- worked examples of events
+pub mod Examples

@@ -3,12 +3,16 @@
 #![tactic(auto)]
 
 mod acceptance;
+mod claims;
 mod commit;
+pub mod examples;
 mod finishing;
 mod instantiations;
+pub mod laws;
 mod machine;
 mod refraction;
 mod workbench;
 
+pub use claims::{Claim, ClaimRefusal, Event, FaultSeen, How};
 pub use finishing::{Finished, finish, run_alone};
 pub use machine::Core;

@@ -1,0 +1,31 @@
+-- The laws of a core: whatever happens keeps it lawful, and only adds to its journal.
+use Rattle.std.specs.Prelude.{◌≡◌, List, [], true, None, Some, ◌↔◌}
+use Rattle.rule_base.specs.declared.instantiation.Candidate.{Candidate}
+use Rattle.rule_base.specs.declared.instantiation.Choice.{Choice}
+use Rattle.rule_base.specs.declared.program.Program.{Program}
+use Rattle.rule_base.specs.Fits.{Fits}
+use Rattle.firing_core.specs.declared.claims.Event.{Event}
+use Rattle.firing_core.specs.CoreState.{CoreState, ended}
+use Rattle.firing_core.specs.Lawful.{IsLawful}
+use Rattle.firing_core.specs.FinishedRun.{GoesOn}
+use Rattle.firing_core.specs.Events.{after_firing, fold, is_fitting, without_claims}
+
+-- whatever happens to a lawful core, it stays lawful
+abbrev pub EventsKeepLawful : Type 0
+EventsKeepLawful = (k after : CoreState) (events : List Event) → IsLawful k → fold k events ≡ Some after → IsLawful after
+
+-- it is of the same run, and its journal has the old one as a prefix
+abbrev pub EventsGoOn : Type 0
+EventsGoOn = (k after : CoreState) (events : List Event) → IsLawful k → fold k events ≡ Some after → GoesOn k after
+
+-- a lawful core without claims that hasn't ended may fire a choice at once
+abbrev pub FiringKeepsLawful : Type 0
+FiringKeepsLawful = (k after : CoreState) (c : Choice) → IsLawful k → k.claims ≡ [] → ended k ≡ None → after_firing k c ≡ Some after → IsLawful after
+
+-- and any may drop all its claims
+abbrev pub DroppingKeepsLawful : Type 0
+DroppingKeepsLawful = (k : CoreState) → IsLawful k → IsLawful (without_claims k)
+
+-- what an event asks of a candidate is that it fits
+abbrev pub FittingIsDecided : Type 0
+FittingIsDecided = (program : Program) (candidate : Candidate) → (is_fitting program candidate ≡ true) ↔ Fits program candidate

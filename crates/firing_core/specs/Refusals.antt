@@ -1,0 +1,67 @@
+-- Why a candidate can't be claimed.
+use lib.Pointwise.{pointwise}
+use Rattle.std.specs.Prelude.{ℕ, ◌^◌, ◌-◌, List, [], ◌∷◌, Bool, ◌&&◌, ◌||◌, not, Option, find, length, map, option_and_then, option_map, slice_get, ◌==◌}
+use Rattle.std.specs.List.{list_any}
+use Rattle.std.specs.Result.{result_err}
+use Rattle.rule_base.specs.declared.lock.Mode.{Mode}
+use Rattle.rule_base.specs.declared.lock.Busy.{Busy}
+use Rattle.rule_base.specs.declared.element.Element.{Element}
+use Rattle.rule_base.specs.declared.instantiation.Choice.{Choice}
+use Rattle.rule_base.specs.declared.instantiation.Candidate.{Candidate}
+use Rattle.rule_base.specs.declared.program.Rule.{Rule}
+use Rattle.rule_base.specs.declared.program.Program.{Program}
+use Rattle.rule_base.specs.Chains.{only_if}
+use Rattle.rule_base.specs.Memory.{Memory}
+use Rattle.rule_base.specs.Match.{match_of}
+use Rattle.rule_base.specs.Value.{same_value}
+use Rattle.rule_base.specs.State.{has_fired, same_choice}
+use Rattle.interference.specs.Footprint.{footprint}
+use Rattle.interference.specs.Pins.{first_answer}
+use Rattle.interference.specs.Words.{first_busy, word_of}
+use Rattle.firing_core.specs.declared.claims.Claim.{Claim}
+use Rattle.firing_core.specs.declared.claims.ClaimRefusal.{ClaimRefusal}
+use Rattle.firing_core.specs.declared.claims.ClaimRefusal.TheVariants as refusal
+use Rattle.firing_core.specs.CoreState.{CoreState, ended}
+
+-- the footprints of the claims that stand
+abbrev pub claimed_footprints : CoreState → List (List (ℕ × Mode))
+claimed_footprints k = map (λ (claim : Claim). footprint k.program claim.candidate) k.claims
+
+-- the first lock that the candidate asks for and on which the standing claims leave no room for its mode, with the word that they make there
+abbrev pub busy_lock : CoreState → Candidate → Option Busy
+busy_lock k candidate = first_busy (word_of (claimed_footprints k)) (footprint k.program candidate)
+
+-- whether two elements are the same: tag, class and values
+abbrev pub same_element : Element → Element → Bool
+same_element e other = (e.tag == other.tag) && (e.class == other.class) && pointwise same_value e.values other.values
+
+-- the tag of the first of these elements that isn't in the memory, or is another there
+abbrev pub gone_tag : Memory → List Element → Option ℕ
+gone_tag memory elements = option_map (λ (e : Element). e.tag) (find (λ (e : Element). not (list_any (same_element e) memory)) elements)
+
+-- the number of the first condition element of the choice's rule that fails, from 1
+abbrev pub failing_condition : Program → Memory → Choice → Option ℕ
+failing_condition program memory c = option_and_then (λ (rule : Rule). result_err (match_of rule c.tags memory)) (slice_get program.rules c.rule)
+
+-- the first claim that stands of this choice
+abbrev pub claim_of_choice : CoreState → Choice → Option Claim
+claim_of_choice k c = find (λ (claim : Claim). same_choice claim.candidate.choice c) k.claims
+
+-- whether no further claim has room: there is no further number, or as many stand as a word can count
+abbrev pub is_full : CoreState → Bool
+is_full k = (k.given == 2 ^ 64 - 1) || (length k.claims == 4095)
+
+-- why the candidate can't be claimed, if it can't: the first of these, in this order
+abbrev pub refusals : CoreState → Candidate → List (Option ClaimRefusal)
+refusals k candidate =
+    option_map refusal.Busy (busy_lock k candidate)
+    ∷ option_map refusal.Ended (ended k)
+    ∷ option_map refusal.Gone (gone_tag k.state.memory candidate.elements)
+    ∷ option_map refusal.Unmatched (failing_condition k.program k.state.memory candidate.choice)
+    ∷ only_if (has_fired k.state candidate.choice) refusal.Fired
+    ∷ option_map (λ (claim : Claim). refusal.Claimed claim.number) (claim_of_choice k candidate.choice)
+    ∷ only_if (is_full k) (refusal.Full k.given (length k.claims))
+    ∷ []
+
+abbrev pub claim_refusal : CoreState → Candidate → Option ClaimRefusal
+claim_refusal k candidate = first_answer (λ o. o) (refusals k candidate)

@@ -1,0 +1,54 @@
+//! Claims, and what happens to a core: as plain data.
+
+use rule_base::{Busy, Candidate, Choice, FaultCause};
+
+/// A claim that stands: its number, and the candidate that it was made for.
+#[derive(Debug, Drop)]
+pub struct Claim {
+    pub number: u64,
+    pub candidate: Candidate,
+}
+
+/// A firing that failed: its choice, its first failing action, from 1, and the cause.
+#[derive(Debug, Drop)]
+pub struct FaultSeen {
+    pub choice: Choice,
+    pub action: u32,
+    pub cause: FaultCause,
+}
+
+/// How a core has ended: by a firing that halted, by its budget, or by a fault.
+#[derive(Clone, Copy, Debug, PartialEq, Eq)]
+pub enum How {
+    Halted,
+    Budget,
+    Fault,
+}
+
+/// Why a candidate can't be claimed.
+#[derive(Clone, Copy, Debug, PartialEq, Eq)]
+pub enum ClaimRefusal {
+    /// A lock that it asks for has no room for it.
+    Busy(Busy),
+    Ended(How),
+    /// Working memory has no such element under this tag.
+    Gone { tag: u64 },
+    /// The condition element with this number, from 1, fails.
+    Unmatched { condition: u32 },
+    Fired,
+    /// The claim with this number is of the same choice.
+    Claimed { number: u64 },
+    /// 2^64 - 1 claims were given a number, or 4,095 stand: so many were, and so many do.
+    Full { given: u64, standing: u64 },
+    OutOfMemory,
+}
+
+/// What happens to a core: a candidate is claimed, or the claim with this number is committed, fails or
+/// is dropped.
+#[derive(Debug, Drop)]
+pub enum Event {
+    Claimed(Candidate),
+    Committed(u64),
+    Faulted(u64),
+    Dropped(u64),
+}

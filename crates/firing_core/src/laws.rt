@@ -1,0 +1,20 @@
+//! Laws of cores. Each function here does nothing: its contract is the law.
+
+ghost use Rattle.firing_core.specs.CoreLaws.{DroppingKeepsLawful, EventsGoOn, EventsKeepLawful, FiringKeepsLawful, FittingIsDecided};
+
+/// Whatever happens to a lawful core, it stays lawful and goes on.
+pub fn events_keep_lawful()
+    ensures lawful { EventsKeepLawful }
+    ensures goes_on { EventsGoOn }
+{}
+
+/// A core without claims that fires at once stays lawful, and so does one that drops its claims.
+pub fn cores_stay_lawful()
+    ensures firing { FiringKeepsLawful }
+    ensures dropping { DroppingKeepsLawful }
+{}
+
+/// A candidate may be claimed only where it fits.
+pub fn fitting_is_decided()
+    ensures { FittingIsDecided }
+{}
