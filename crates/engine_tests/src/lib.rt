@@ -1,6 +1,6 @@
 //! Tests of the crates that the engine is made of, by their public calls: copies of the data of rule programs, rows of
-//! bindings, effects of firings, runs of cores to their endings, footprints, and places of working memory. What conditions
-//! accept and what runs come to, the program shows where it can: that is in `cases/`.
+//! bindings, effects of firings, runs of cores to their endings, footprints, places of working memory, and when choices last
+//! fired. What conditions accept and what runs come to, the program shows where it can: that is in `cases/`.
 #![tactic(auto)]
 
 #[cfg(test)]
@@ -13,6 +13,8 @@ mod effects;
 mod footprints;
 #[cfg(test)]
 mod places;
+#[cfg(test)]
+mod refraction;
 #[cfg(test)]
 mod runs;
 #[cfg(test)]

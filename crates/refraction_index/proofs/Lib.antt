@@ -1,0 +1,4 @@
+-- numbers by words, once one is set
+pub mod NumberLemmas
+-- when choices last fired, once one more has
+pub mod FiringLemmas
