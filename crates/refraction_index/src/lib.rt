@@ -3,6 +3,7 @@
 #![tactic(auto)]
 
 mod index;
+pub mod laws;
 mod numbers;
 
 pub use index::RefractionIndex;
