@@ -1,5 +1,5 @@
 -- A match beside further elements: it is the match without them, where they block none of its condition elements.
-use Rattle.std.proofs.Common.{◌≡◌, ℕ, ◌+◌, List, [], ◌∷◌, ◌++◌, Bool, true, false, cond, not, ◌&&◌, ◌||◌, ◌==◌, Option, Some, None, Result, is_ok, is_some, option_and_then, option_map, slice_get, refl, sym, ◌∙◌, ap, subst}
+use Rattle.std.proofs.Common.{◌≡◌, ℕ, ◌+◌, List, [], ◌∷◌, ◌++◌, Bool, true, false, cond, not, ◌&&◌, ◌||◌, ◌==◌, Option, Some, None, Result, inl, inr, is_ok, is_some, option_and_then, option_map, slice_get, refl, sym, ◌∙◌, ap, subst}
 use Rattle.std.specs.List.{AllByRecursion, find, list_any}
 use Rattle.std.specs.Option.{option_map_or}
 use Rattle.std.proofs.lemmas.List.Folds.{list_any-append}
@@ -14,7 +14,7 @@ use Rattle.rule_base.specs.Bindings.{Bindings, no_bindings}
 use Rattle.rule_base.specs.Acceptance.{accepts}
 use Rattle.rule_base.specs.Match.{accepts_some, after_cond, after_positive, go_on, match_from, match_of}
 use Rattle.rule_base.specs.Step.{matches}
-use Rattle.rule_base.proofs.AmongLemmas.{Among, list_any-among}
+use Rattle.rule_base.proofs.AmongLemmas.{Among}
 use Rattle.refraction_index.specs.Beside.{AreThere, blocks_none, blocks_none_by, blocks_none_from}
 
 -- these tags have the same elements in both memories
@@ -162,11 +162,11 @@ pub matches-append : (program : Program) (memory more : Memory) (c : Choice) →
 matches-append program memory more c there = of_rule c memory more (slice_get program.rules c.rule) there
 
 -- a choice that matches is blocked by none of the elements beside which it does
-first_of_both : (a b : Bool) → (a && b) ≡ true → a ≡ true
+pub first_of_both : (a b : Bool) → (a && b) ≡ true → a ≡ true
 first_of_both true b is = refl
 first_of_both false b is = is
 
-second_of_both : (a b : Bool) → (a && b) ≡ true → b ≡ true
+pub second_of_both : (a b : Bool) → (a && b) ≡ true → b ≡ true
 second_of_both true b is = is
 second_of_both false b is = absurd (let wrong : ⊥ = cc in wrong)
 
@@ -214,3 +214,19 @@ nothing_rule c memory (Some rule) = blocks_none_from-nothing rule.conds memory c
 
 pub blocks_none-nothing : (program : Program) (memory : Memory) (c : Choice) → blocks_none program memory [] c ≡ true
 blocks_none-nothing program memory c = nothing_rule c memory (slice_get program.rules c.rule)
+
+-- fewer elements block none where all do
+one_of_more : (program : Program) (memory more : Memory) (c : Choice) (e : Element) → Among e more → blocks_none program memory more c ≡ true → blocks_none program memory (e ∷ []) c ≡ true
+one_of_more program memory [] c e among free = absurd among
+one_of_more program memory (x ∷ more) c e (inl same) free =
+    ap (λ y. blocks_none program memory (y ∷ []) c) same
+    ∙ first_of_both (blocks_none program memory (x ∷ []) c) (blocks_none program memory more c) (sym (blocks_none-append program memory (x ∷ []) more c) ∙ free)
+one_of_more program memory (x ∷ more) c e (inr later) free =
+    one_of_more program memory more c e later (second_of_both (blocks_none program memory (x ∷ []) c) (blocks_none program memory more c) (sym (blocks_none-append program memory (x ∷ []) more c) ∙ free))
+
+pub blocks_none-fewer : (program : Program) (memory more fewer : Memory) (c : Choice) → AllByRecursion (λ (e : Element). Among e more) fewer → blocks_none program memory more c ≡ true → blocks_none program memory fewer c ≡ true
+blocks_none-fewer program memory more [] c among free = blocks_none-nothing program memory c
+blocks_none-fewer program memory more (e ∷ fewer) c among free =
+    blocks_none-append program memory (e ∷ []) fewer c
+    ∙ ap (λ b. b && blocks_none program memory fewer c) (one_of_more program memory more c e among.0 free)
+    ∙ blocks_none-fewer program memory more fewer c among.1 free

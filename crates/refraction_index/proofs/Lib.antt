@@ -4,3 +4,5 @@ pub mod NumberLemmas
 pub mod FiringLemmas
 -- a match beside further elements
 pub mod BesideLemmas
+-- whether what has fired is fired still
+pub mod StillFiredLemmas
