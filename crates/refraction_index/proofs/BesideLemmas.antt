@@ -1,6 +1,7 @@
 -- A match beside further elements: it is the match without them, where they block none of its condition elements.
 use Rattle.std.proofs.Common.{◌≡◌, ℕ, ◌+◌, List, [], ◌∷◌, ◌++◌, Bool, true, false, cond, not, ◌&&◌, ◌||◌, ◌==◌, Option, Some, None, Result, inl, inr, is_ok, is_some, option_and_then, option_map, slice_get, refl, sym, ◌∙◌, ap, subst}
-use Rattle.std.specs.List.{AllByRecursion, find, list_any}
+use Rattle.std.specs.Prelude.{IsSome}
+use Rattle.std.specs.List.{AllByRecursion, find}
 use Rattle.std.specs.Option.{option_map_or}
 use Rattle.std.proofs.lemmas.List.Folds.{list_any-append}
 use Rattle.rule_base.specs.declared.condition.Cond.{Cond}
@@ -9,12 +10,15 @@ use Rattle.rule_base.specs.declared.instantiation.Choice.{Choice}
 use Rattle.rule_base.specs.declared.program.Rule.{Rule}
 use Rattle.rule_base.specs.declared.program.Program.{Program}
 use Rattle.rule_base.specs.Chains.{only_if}
-use Rattle.rule_base.specs.Memory.{Memory, element_at}
+use Rattle.rule_base.specs.Memory.{Memory, Rises, element_at, tags_of}
 use Rattle.rule_base.specs.Bindings.{Bindings, no_bindings}
 use Rattle.rule_base.specs.Acceptance.{accepts}
 use Rattle.rule_base.specs.Match.{accepts_some, after_cond, after_positive, go_on, match_from, match_of}
 use Rattle.rule_base.specs.Step.{matches}
 use Rattle.rule_base.proofs.AmongLemmas.{Among}
+use Rattle.rule_base.proofs.EachLemmas.{Each-weaker}
+use Rattle.rule_base.proofs.MemoryLemmas.{AllFound-rising}
+use Rattle.rule_base.proofs.TakenLemmas.{Each-matches}
 use Rattle.refraction_index.specs.Beside.{AreThere, blocks_none, blocks_none_by, blocks_none_from}
 
 -- these tags have the same elements in both memories
@@ -230,3 +234,16 @@ blocks_none-fewer program memory more (e ∷ fewer) c among free =
     blocks_none-append program memory (e ∷ []) fewer c
     ∙ ap (λ b. b && blocks_none program memory fewer c) (one_of_more program memory more c e among.0 free)
     ∙ blocks_none-fewer program memory more fewer c among.1 free
+
+-- the tags of a choice that matches have their elements
+pub AreThere-matches : (program : Program) (memory : Memory) (c : Choice) → Rises (tags_of memory) → matches program memory c ≡ true → AreThere memory c.tags
+AreThere-matches program memory c rises ok =
+    Each-matches (λ tag. IsSome (element_at memory tag)) program memory c (Each-weaker (λ (e : Element). element_at memory e.tag ≡ Some e) (λ (e : Element). IsSome (element_at memory e.tag)) (λ e at. some_at e.tag e at) memory (AllFound-rising memory rises)) ok
+  where
+    some_at : (tag : ℕ) (e : Element) → element_at memory tag ≡ Some e → IsSome (element_at memory tag)
+    some_at tag e at = subst (λ (o : Option Element). IsSome o) (sym at) refl
+
+-- so it matches beside further elements where they block none of its condition elements
+pub matches-beside : (program : Program) (memory more : Memory) (c : Choice) → Rises (tags_of memory) → matches program memory c ≡ true → matches program (memory ++ more) c ≡ blocks_none program memory more c
+matches-beside program memory more c rises ok =
+    matches-append program memory more c (AreThere-matches program memory c rises ok) ∙ ap (λ b. b && blocks_none program memory more c) ok

@@ -5,4 +5,6 @@ pub mod FiringLemmas
 -- a match beside further elements
 pub mod BesideLemmas
 -- whether what has fired is fired still
+pub mod MemberLemmas
+pub mod SinceLemmas
 pub mod StillFiredLemmas

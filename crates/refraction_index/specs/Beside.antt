@@ -6,7 +6,7 @@ use Rattle.rule_base.specs.declared.condition.Cond.{Cond}
 use Rattle.rule_base.specs.declared.instantiation.Choice.{Choice}
 use Rattle.rule_base.specs.declared.program.Rule.{Rule}
 use Rattle.rule_base.specs.declared.program.Program.{Program}
-use Rattle.rule_base.specs.Memory.{Memory, element_at}
+use Rattle.rule_base.specs.Memory.{Memory, Rises, element_at, tags_of}
 use Rattle.rule_base.specs.Bindings.{Bindings, no_bindings}
 use Rattle.rule_base.specs.Match.{accepts_some, after_positive, match_from}
 use Rattle.rule_base.specs.Step.{matches}
@@ -44,3 +44,8 @@ MatchesComeApart = (number : ℕ) (conds : List Cond) (memory more : Memory) (ta
 abbrev pub ChoicesComeApart : Type 0
 ChoicesComeApart = (program : Program) (memory more : Memory) (c : Choice) → AreThere memory c.tags
     → matches program (memory ++ more) c ≡ (matches program memory c && blocks_none program memory more c)
+
+-- a choice that matches also does beside further elements where they block none of its condition elements
+abbrev pub MatchesGoOn : Type 0
+MatchesGoOn = (program : Program) (memory more : Memory) (c : Choice) → Rises (tags_of memory) → matches program memory c ≡ true
+    → matches program (memory ++ more) c ≡ blocks_none program memory more c

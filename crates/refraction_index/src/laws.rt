@@ -1,6 +1,6 @@
 //! Laws of what the index tells. Each function here does nothing: its contract is the law.
 
-ghost use Rattle.refraction_index.specs.Beside.{ChoicesComeApart, MatchesComeApart};
+ghost use Rattle.refraction_index.specs.Beside.{ChoicesComeApart, MatchesComeApart, MatchesGoOn};
 ghost use Rattle.refraction_index.specs.StillFired.{LastFiringTells};
 
 /// Of a choice that matches, the last firing tells whether it is fired still.
@@ -13,4 +13,5 @@ pub fn last_firing_tells()
 pub fn matches_come_apart()
     ensures conditions { MatchesComeApart }
     ensures choices { ChoicesComeApart }
+    ensures goes_on { MatchesGoOn }
 {}
