@@ -91,7 +91,7 @@ comes_apart number (first ∷ conds) memory other tags bindings same = apart_by 
 same_negated : (b x y : Bool) → x ≡ y → (not b && x) ≡ (not b && y)
 same_negated b x y same = ap (λ z. not b && z) same
 
-abbrev RestIsSame : List Cond → Memory → Memory → Memory → Type 0
+abbrev pub RestIsSame : List Cond → Memory → Memory → Memory → Type 0
 RestIsSame conds memory other more = (tags : List ℕ) (bindings : Bindings) → AreSame memory other tags → blocks_none_from conds memory more tags bindings ≡ blocks_none_from conds other more tags bindings
 
 same_accepted : (conds : List Cond) (memory other more : Memory) (tags : List ℕ) (o : Option Bindings) → AreSame memory other tags → RestIsSame conds memory other more → option_map_or (λ (after : List ℕ × Bindings). blocks_none_from conds memory more after.0 after.1) (option_map (λ after. (tags, after)) o) true ≡ option_map_or (λ (after : List ℕ × Bindings). blocks_none_from conds other more after.0 after.1) (option_map (λ after. (tags, after)) o) true
@@ -105,7 +105,7 @@ same_by false first conds memory other more (tag ∷ tags) bindings same rest =
     same_accepted conds memory other more tags (option_and_then (accepts first bindings) (element_at memory tag)) same.1 rest
     ∙ ap (λ (o : Option Element). option_map_or (λ (after : List ℕ × Bindings). blocks_none_from conds other more after.0 after.1) (option_map (λ after. (tags, after)) (option_and_then (accepts first bindings) o)) true) same.0
 
-blocks_none_from-same : (conds : List Cond) (memory other more : Memory) → RestIsSame conds memory other more
+pub blocks_none_from-same : (conds : List Cond) (memory other more : Memory) → RestIsSame conds memory other more
 blocks_none_from-same [] memory other more tags bindings same = refl
 blocks_none_from-same (first ∷ conds) memory other more tags bindings same = same_by first.negated first conds memory other more tags bindings same (blocks_none_from-same conds memory other more)
 
@@ -128,7 +128,7 @@ append_by true first conds memory more others tags bindings rest =
     ∙ both_negated (accepts_some first bindings more) (accepts_some first bindings others) (blocks_none_from conds memory more tags bindings) (blocks_none_from conds memory others tags bindings)
 append_by false first conds memory more others tags bindings rest = append_accepted conds memory more others (after_positive first memory tags bindings) rest
 
-blocks_none_from-append : (conds : List Cond) (memory more others : Memory) (tags : List ℕ) (bindings : Bindings) → blocks_none_from conds memory (more ++ others) tags bindings ≡ (blocks_none_from conds memory more tags bindings && blocks_none_from conds memory others tags bindings)
+pub blocks_none_from-append : (conds : List Cond) (memory more others : Memory) (tags : List ℕ) (bindings : Bindings) → blocks_none_from conds memory (more ++ others) tags bindings ≡ (blocks_none_from conds memory more tags bindings && blocks_none_from conds memory others tags bindings)
 blocks_none_from-append [] memory more others tags bindings = refl
 blocks_none_from-append (first ∷ conds) memory more others tags bindings = append_by first.negated first conds memory more others tags bindings (blocks_none_from-append conds memory more others)
 
@@ -141,7 +141,7 @@ nothing_by : (negated : Bool) (first : Cond) (conds : List Cond) (memory : Memor
 nothing_by true first conds memory tags bindings rest = rest tags bindings
 nothing_by false first conds memory tags bindings rest = nothing_accepted conds memory (after_positive first memory tags bindings) rest
 
-blocks_none_from-nothing : (conds : List Cond) (memory : Memory) (tags : List ℕ) (bindings : Bindings) → blocks_none_from conds memory [] tags bindings ≡ true
+pub blocks_none_from-nothing : (conds : List Cond) (memory : Memory) (tags : List ℕ) (bindings : Bindings) → blocks_none_from conds memory [] tags bindings ≡ true
 blocks_none_from-nothing [] memory tags bindings = refl
 blocks_none_from-nothing (first ∷ conds) memory tags bindings = nothing_by first.negated first conds memory tags bindings (blocks_none_from-nothing conds memory)
 

@@ -16,7 +16,7 @@ abbrev pub AreThere : Memory → List ℕ → Type 0
 AreThere memory tags = AllByRecursion (λ tag. IsSome (element_at memory tag)) tags
 
 -- one condition element before others: a negated one is blocked where it accepts one of the further elements, and a
--- positive one never is; where it doesn't hold, those behind it aren't reached
+-- positive one never is; where that doesn't hold, those behind it aren't reached and so aren't blocked
 abbrev pub blocks_none_by : Bool → Cond → Memory → Memory → List ℕ → Bindings → (List ℕ → Bindings → Bool) → Bool
 blocks_none_by true cond memory more tags bindings behind = not (accepts_some cond bindings more) && behind tags bindings
 blocks_none_by false cond memory more tags bindings behind =
@@ -45,7 +45,8 @@ abbrev pub ChoicesComeApart : Type 0
 ChoicesComeApart = (program : Program) (memory more : Memory) (c : Choice) → AreThere memory c.tags
     → matches program (memory ++ more) c ≡ (matches program memory c && blocks_none program memory more c)
 
--- a choice that matches also does beside further elements where they block none of its condition elements
+-- a choice that matches, in a memory whose tags rise, also does beside further elements where they block none of its
+-- condition elements
 abbrev pub MatchesGoOn : Type 0
 MatchesGoOn = (program : Program) (memory more : Memory) (c : Choice) → Rises (tags_of memory) → matches program memory c ≡ true
     → matches program (memory ++ more) c ≡ blocks_none program memory more c
