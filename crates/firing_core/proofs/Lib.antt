@@ -1,5 +1,7 @@
 -- the match
 pub mod ListLemmas
+pub mod TagLemmas
+pub mod StoreLemmas
 pub mod MatchingLemmas
 pub mod AcceptanceLemmas
 pub mod FilterLemmas

@@ -1,5 +1,6 @@
 -- what the public calls promise
 pub mod CoreState
+pub mod Store
 pub mod Refusals
 pub mod Events
 pub mod Lawful

@@ -11,6 +11,8 @@ mod instantiations;
 pub mod laws;
 mod machine;
 mod refraction;
+mod store;
+mod tags;
 mod workbench;
 
 pub use claims::{Claim, ClaimRefusal, Event, FaultSeen, How};
