@@ -2,6 +2,7 @@
 pub mod CutLemmas
 -- the elements that a run makes
 pub mod NumberedLemmas
+pub mod BornLemmas
 -- the entries of a journal
 pub mod BesideLemmas
 pub mod EntryLemmas
