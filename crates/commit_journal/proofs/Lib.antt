@@ -7,6 +7,7 @@ pub mod BornLemmas
 pub mod BesideLemmas
 pub mod EntryLemmas
 pub mod RoomLemmas
+pub mod PushLemmas
 pub mod CommitLemmas
 -- the text of a journal
 pub mod JournalTextLemmas
