@@ -215,7 +215,13 @@ impl Journal {
     /// Adds the entry of a firing. The elements that it makes get the next tags. It takes no memory. Of
     /// its time the steps count one for each change and one for the entry; beside that it copies the
     /// tags, the values and the pieces, each kind as one range.
-    pub fn commit<L: Ledger>(&mut self, rule: u32, tags: &[u64], effect: &Effect, steps: &mut Steps<L>)
+    pub fn commit<L: Ledger>(
+        &mut self,
+        rule: u32,
+        tags: &[u64],
+        effect: &Effect,
+        steps: &mut Steps<L>,
+    )
         requires room { FitsIn (room_for tags.now (removed_tags effect.now.changes) (born self.old.next effect.now.changes) effect.now.pieces) self.old.room }
         ensures entries { self.new.entries ≡ self.old.entries ++ entry_of self.old.next (record { rule = rule; tags = tags.now }) effect.now ∷ [] }
         ensures next { self.new.next ≡ self.old.next + length (born self.old.next effect.now.changes) }

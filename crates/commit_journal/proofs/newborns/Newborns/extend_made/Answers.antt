@@ -1,6 +1,5 @@
 -- One change more.
-use Rattle.std.proofs.Common.{◌≡◌, ◌+◌, ◌++◌, ◌∷◌, [], ◌∙◌, ap, arith, drop, length, refl, sym, append_assoc}
-use Rattle.rule_base.specs.Memory.{value_count}
+use Rattle.std.proofs.Common.{◌+◌, ◌++◌, ◌∷◌, [], ◌∙◌, ap, arith, drop, refl, sym, append_assoc}
 use Rattle.rule_base.specs.Step.{born}
 use Rattle.rhs_actions.specs.EffectViews.{change_in}
 use Rattle.commit_journal.proofs.BornLemmas.{Splits-drop}
