@@ -212,9 +212,9 @@ impl Journal {
         });
     }
 
-    /// Adds the entry of a firing. The elements that it makes get the next tags. It takes no memory. Of
-    /// its time the steps count one for each change and one for the entry; beside that it copies the
-    /// tags, the values and the pieces, each kind as one range.
+    /// Adds the entry of a firing. The elements that it makes get the next tags. It takes no memory. It
+    /// counts a step for each tag that goes, each element that comes, and the entry; that values and
+    /// pieces are copied into the journal is not counted.
     pub fn commit<L: Ledger>(
         &mut self,
         rule: u32,
