@@ -2,8 +2,10 @@
 //! its own, and none at all where there is room.
 
 ghost use Rattle.std.specs.Prelude.{◌≡◌, ◌+◌, ◌^◌, ◌<◌, ◌≤◌, ◌↔◌, [], ◌∷◌, ◌++◌, IfOk, IsTrue, OnOk, Some, drop, length, option_map, slice_get, take};
+ghost use Rattle.rule_base.specs.Effect.{removed_tags};
 ghost use Rattle.rule_base.specs.Memory.{element_at, tags_of};
 ghost use Rattle.rule_base.specs.Opening.{AreConsecutive};
+ghost use Rattle.rule_base.specs.Step.{born, entry_of};
 ghost use Rattle.rule_base.specs.Views.{element_in};
 ghost use Rattle.commit_journal.specs.Entries.{born_in, entry_with, pieces_of};
 ghost use Rattle.commit_journal.specs.EntryViews.{entry_in};
@@ -14,9 +16,11 @@ use crate::lists::{Lists, part};
 use crate::newborns::Newborns;
 use crate::{EntryView, Room};
 use ops_text::{OutOfMemory, Sequence};
-use rule_base::{ElementView, Elements, Entry, Piece};
+use rhs_actions::Effect;
+use rule_base::{ElementView, Elements, Entry, Piece, Steps};
 use std::alloc::Global;
 use std::marker::Model;
+use std::sync::ledger::Ledger;
 
 /// Entries in the order of their firings.
 #[derive(Drop)]
@@ -205,6 +209,44 @@ impl Journal {
             elements: born.len(),
             values,
             pieces: pieces.len(),
+        });
+    }
+
+    /// Adds the entry of a firing. The elements that it makes get the next tags. It takes no memory. It
+    /// counts a step for each tag that goes, each element that comes, and the entry; that values and
+    /// pieces are copied into the journal is not counted.
+    pub fn commit<L: Ledger>(
+        &mut self,
+        rule: u32,
+        tags: &[u64],
+        effect: &Effect,
+        steps: &mut Steps<L>,
+    )
+        requires room { FitsIn (room_for tags.now (removed_tags effect.now.changes) (born self.old.next effect.now.changes) effect.now.pieces) self.old.room }
+        ensures entries { self.new.entries ≡ self.old.entries ++ entry_of self.old.next (record { rule = rule; tags = tags.now }) effect.now ∷ [] }
+        ensures next { self.new.next ≡ self.old.next + length (born self.old.next effect.now.changes) }
+        ensures room { self.new.room ≡ room_without self.old.room (room_for tags.now (removed_tags effect.now.changes) (born self.old.next effect.now.changes) effect.now.pieces) }
+        ensures steps { steps.new ≤ steps.old + length effect.now.changes + 1 }
+    {
+        self.tags.push(tags);
+        self.gone.push(effect.removed_tags());
+        self.pieces.push(effect.pieces());
+        let before = self.newborns.len();
+        let values = self.newborns.extend_made(effect, steps);
+        let len = self.newborns.len();
+        steps.tick();
+        self.firings.push_reserved(Firing {
+            rule,
+            born: len as u32,
+            halts: effect.halts(),
+        });
+        self.room = self.room.without(Room {
+            entries: 1,
+            tags: tags.len(),
+            gone: effect.removed_tags().len(),
+            elements: len - before,
+            values,
+            pieces: effect.pieces().len(),
         });
     }
 }

@@ -1,5 +1,5 @@
 //! The journal of a run as a flat store, the layout of what a run writes, and the journal's text. It
-//! knows no match and no firing.
+//! takes in effects of firings, and knows no match and not what an effect comes from.
 #![tactic(auto)]
 
 mod entry_view;

@@ -4,13 +4,17 @@
 ghost use Rattle.std.specs.Prelude.{◌≡◌, ◌+◌, ◌^◌, ◌<◌, ◌≤◌, [], ◌∷◌, ◌++◌, ◌↔◌, IfOk, IsTrue, OnOk, Some, drop, length, option_map, slice_get, take};
 ghost use Rattle.rule_base.specs.Memory.{element_at, tags_of, value_count};
 ghost use Rattle.rule_base.specs.Opening.{AreConsecutive};
+ghost use Rattle.rule_base.specs.Step.{born};
 ghost use Rattle.rule_base.specs.Views.{element_in};
+ghost use Rattle.rhs_actions.specs.EffectViews.{change_in};
 
 use crate::lists::{Lists, part};
 use ops_text::OutOfMemory;
-use rule_base::{ElementView, Elements, Value};
+use rhs_actions::{ChangeView, Effect};
+use rule_base::{ElementView, Elements, Steps, Value};
 use std::alloc::Global;
 use std::marker::Model;
+use std::sync::ledger::Ledger;
 
 /// Elements in the order in which they were made.
 #[derive(Drop)]
@@ -148,6 +152,46 @@ impl Newborns {
             count += element.values.len();
         }
         count
+    }
+
+    /// Adds the elements that an effect makes, and tells how many values they have together. It takes no
+    /// memory, and a step for each change.
+    pub fn extend_made<L: Ledger>(&mut self, effect: &Effect, steps: &mut Steps<L>) -> usize
+        requires below { self.old.next + length (born self.old.next effect.now.changes) < 2 ^ 64 }
+        requires few { value_count (born self.old.next effect.now.changes) < 2 ^ 64 }
+        requires room { (length (born self.old.next effect.now.changes) ≤ self.old.more_elements) × (value_count (born self.old.next effect.now.changes) ≤ self.old.more_values) }
+        ensures elements { self.new.elements ≡ self.old.elements ++ born self.old.next effect.now.changes }
+        ensures next { self.new.next ≡ self.old.next + length (born self.old.next effect.now.changes) }
+        ensures left { (self.old.more_elements ≤ self.new.more_elements + length (born self.old.next effect.now.changes)) × (self.old.more_values ≤ self.new.more_values + value_count (born self.old.next effect.now.changes)) }
+        ensures count { result ≡ value_count (born self.old.next effect.now.changes) }
+        ensures steps { steps.new ≤ steps.old + length effect.now.changes }
+    {
+        let mut count = 0;
+        for at in 0..effect.len() {
+            steps.tick();
+            count += self.push_made(effect.change(at));
+        }
+        count
+    }
+
+    /// Adds the element that a change makes, if it makes one, and tells how many values it has. It takes
+    /// no memory.
+    fn push_made(&mut self, change: ChangeView<'_>) -> usize
+        requires below { self.old.next + length (born self.old.next (change_in change ∷ [])) < 2 ^ 64 }
+        requires room { (length (born self.old.next (change_in change ∷ [])) ≤ self.old.more_elements) × (value_count (born self.old.next (change_in change ∷ [])) ≤ self.old.more_values) }
+        ensures elements { self.new.elements ≡ self.old.elements ++ born self.old.next (change_in change.entry ∷ []) }
+        ensures next { self.new.next ≡ self.old.next + length (born self.old.next (change_in change.entry ∷ [])) }
+        ensures left { (self.old.more_elements ≤ self.new.more_elements + length (born self.old.next (change_in change.entry ∷ []))) × (self.old.more_values ≤ self.new.more_values + value_count (born self.old.next (change_in change.entry ∷ []))) }
+        ensures count { result ≡ value_count (born self.old.next (change_in change.entry ∷ [])) }
+    {
+        match change {
+            ChangeView::Remove(_) => 0,
+            ChangeView::Make { class, values } => {
+                let tag = self.next();
+                self.push(ElementView { tag, class, values });
+                values.len()
+            }
+        }
     }
 
     /// Elements equal to so many of these, from a place on. What stands before them costs nothing.

@@ -1,10 +1,13 @@
 //! Room: what a journal can take in without memory.
 
-ghost use Rattle.std.specs.Prelude.{◌≡◌, ◌+◌, IfOk, length};
+ghost use Rattle.std.specs.Prelude.{◌≡◌, ℕ, ◌+◌, IfOk, length};
 ghost use Rattle.commit_journal.specs.Room.{FitsIn, larger_room, room_for, room_without};
+ghost use Rattle.rule_base.specs.Effect.{removed_tags};
 ghost use Rattle.rule_base.specs.Memory.{value_count};
+ghost use Rattle.rule_base.specs.Step.{born};
 
 use ops_text::OutOfMemory;
+use rhs_actions::Effect;
 use rule_base::{Elements, Piece};
 
 /// So many entries, and in them so many tags, removed tags, born elements, values of those, and pieces.
@@ -51,6 +54,21 @@ impl Room {
             values,
             pieces: pieces.len(),
         })
+    }
+
+    /// What the entry of a firing on these tags needs. It looks at one change of the effect after
+    /// another.
+    pub fn for_effect(tags: &[u64], effect: &Effect) -> Room
+        ensures { (next : ℕ) → result ≡ room_for tags.now (removed_tags effect.now.changes) (born next effect.now.changes) effect.now.pieces }
+    {
+        Room {
+            entries: 1,
+            tags: tags.len(),
+            gone: effect.removed_tags().len(),
+            elements: effect.makes(),
+            values: effect.made_values(),
+            pieces: effect.pieces().len(),
+        }
     }
 
     /// What is left once so much is taken.

@@ -64,7 +64,7 @@ fn told_failed(alloc: Global, failed: &Failed) -> Result<String, OutOfMemory> {
 }
 
 /// What comes of firing the rule with number 0 with the elements of the opening.
-fn told_firing(alloc: Global, program: Program) -> Result<String, Fail>
+fn fired(alloc: Global, program: Program) -> Result<Result<Delta, FireRefusal>, Fail>
     requires sound { IsSound program }
     requires few_makes { length program.makes < 2 ^ 32 }
 {
@@ -73,7 +73,26 @@ fn told_firing(alloc: Global, program: Program) -> Result<String, Fail>
         return Err(Fail::new("not accepted"));
     }
     let program = Arc::new(alloc, program)?;
-    match fire(alloc, &program, 0, elements) {
+    Ok(fire(alloc, &program, 0, elements))
+}
+
+/// The firing of the rule with number 0 with the elements of the opening.
+pub fn firing_of(alloc: Global, program: Program) -> Result<Delta, Fail>
+    requires sound { IsSound program }
+    requires few_makes { length program.makes < 2 ^ 32 }
+{
+    match fired(alloc, program)? {
+        Ok(delta) => Ok(delta),
+        Err(_) => Err(Fail::new("no effect")),
+    }
+}
+
+/// What comes of the firing, in a line.
+fn told_firing(alloc: Global, program: Program) -> Result<String, Fail>
+    requires sound { IsSound program }
+    requires few_makes { length program.makes < 2 ^ 32 }
+{
+    match fired(alloc, program)? {
         Ok(delta) => Ok(told_delta(alloc, &delta)?),
         Err(FireRefusal::Failed(failed)) => Ok(told_failed(alloc, &failed)?),
         Err(FireRefusal::OutOfMemory) => Err(Fail::new("out of memory")),

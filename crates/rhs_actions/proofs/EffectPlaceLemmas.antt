@@ -1,6 +1,6 @@
 -- Effects in flat arrays: values that are added hide none, and a change that is added lies behind the others.
-use Rattle.std.proofs.Common.{◌≡◌, ℕ, ◌+◌, ◌-◌, ◌≤◌, ◌==◌, List, [], ◌∷◌, ◌++◌, Bool, Result, Ok, length, drop, take, replicate, refl, sym, ◌∙◌, ap, subst, arith, append_assoc}
-use Rattle.std.specs.List.{list_any, sum_by}
+use Rattle.std.proofs.Common.{◌≡◌, ℕ, ◌+◌, ◌-◌, ◌≤◌, List, [], ◌∷◌, ◌++◌, Bool, Result, Ok, length, drop, take, replicate, refl, sym, ◌∙◌, ap, subst, arith, append_assoc}
+use Rattle.std.specs.List.{sum_by}
 use Rattle.std.proofs.lemmas.List.{drop-append-le, length-drop, length-take-le, map-append, take-append-drop, take-append-le, take_all}
 use Rattle.std.proofs.lemmas.List.Sums.{sum_by-cons}
 use Rattle.std.proofs.Math.Seq.{drop-append_seam, take-append_seam}
@@ -14,13 +14,13 @@ use Rattle.rule_base.specs.Chains.{◌>>=◌}
 use Rattle.rule_base.specs.Value.{nil}
 use Rattle.rule_base.specs.Bindings.{Bindings}
 use Rattle.rule_base.specs.Term.{after_sets}
-use Rattle.rule_base.specs.Effect.{Effect, Progress, changing, is_gone, modified, removed_tags}
+use Rattle.rule_base.specs.Effect.{Effect, Progress, changing, modified, removed_tags}
 use Rattle.rule_base.specs.Step.{born}
 use Rattle.rule_base.proofs.EachLemmas.{Each-append, Each-weaker}
 use Rattle.rule_base.proofs.EffectLemmas.{makes}
 use Rattle.rhs_actions.specs.declared.effect.Placed.{Placed}
 use Rattle.rhs_actions.specs.declared.effect.Placed.TheVariants.{Remove, Make}
-use Rattle.rhs_actions.specs.EffectPlaces.{AreWithin, IsWithin, LieAmong, change_of, changes_in, effect_in, sizes_of}
+use Rattle.rhs_actions.specs.EffectPlaces.{AreWithin, IsWithin, LieAmong, change_of, changes_in, effect_in, sizes_of, tags_at}
 use Rattle.rhs_actions.specs.Acting.{made, reached}
 
 -- a change stays the same where more values follow
@@ -35,16 +35,23 @@ changes_in-more values more [] within = refl
 changes_in-more values more (place ∷ places) within =
     ap (λ c. c ∷ changes_in (values ++ more) places) (change_of-more values more place within.0) ∙ ap (λ cs. change_of values place ∷ cs) (changes_in-more values more places within.1)
 
--- what is gone doesn't depend on the values
-pub is_gone-values : (tag : ℕ) (values others : List Value) (places : List Placed) → is_gone tag (changes_in values places) ≡ is_gone tag (changes_in others places)
-is_gone-values tag values others places = ap (λ tags. list_any (λ gone. gone == tag) tags) (same places)
-  where
-    same : (places : List Placed) → removed_tags (changes_in values places) ≡ removed_tags (changes_in others places)
-    same [] = refl
-    same (Remove gone ∷ places) = ap (λ tags. gone ∷ tags) (same places)
-    same (Make start size class ∷ places) = same places
+-- the tags that are removed don't depend on the values
+pub removed_tags-places : (values : List Value) (places : List Placed) → removed_tags (changes_in values places) ≡ tags_at places
+removed_tags-places values [] = refl
+removed_tags-places values (Remove gone ∷ places) = ap (λ tags. gone ∷ tags) (removed_tags-places values places)
+removed_tags-places values (Make start size class ∷ places) = removed_tags-places values places
 
--- and neither does how many elements are made
+pub tags_at-append : (places added : List Placed) → tags_at (places ++ added) ≡ tags_at places ++ tags_at added
+tags_at-append [] added = refl
+tags_at-append (Remove gone ∷ places) added = ap (λ tags. gone ∷ tags) (tags_at-append places added)
+tags_at-append (Make start size class ∷ places) added = tags_at-append places added
+
+-- tags that are added as their changes are
+pub tags_at-added : (places added placed : List Placed) (gone tags : List ℕ) → gone ≡ tags_at places → placed ≡ places ++ added → tags ≡ gone ++ tags_at added → tags ≡ tags_at placed
+tags_at-added places added placed gone tags gone_is placed_is tags_is =
+    tags_is ∙ ap (λ ts. ts ++ tags_at added) gone_is ∙ sym (tags_at-append places added) ∙ ap tags_at (sym placed_is)
+
+-- how many elements are made doesn't depend on the values
 pub makes-values : (values others : List Value) (places : List Placed) → makes (changes_in values places) ≡ makes (changes_in others places)
 makes-values values others [] = refl
 makes-values values others (Remove gone ∷ places) = makes-values values others places

@@ -22,6 +22,12 @@ changes_in values places = map (change_of values) places
 abbrev pub effect_in : List Value → List Placed → List Piece → Bool → Effect
 effect_in values places pieces halts = record { changes = changes_in values places; pieces = pieces; halts = halts }
 
+-- the tags that changes at places remove, in order
+abbrev pub tags_at : List Placed → List ℕ
+tags_at [] = []
+tags_at (Remove tag ∷ places) = tag ∷ tags_at places
+tags_at (Make start size class ∷ places) = tags_at places
+
 -- all values of the place are there
 abbrev pub IsWithin : List Value → Placed → Type 0
 IsWithin values (Remove tag) = Unit {0}

@@ -1,11 +1,12 @@
 //! What a firing asks for, in flat arrays: however many elements it makes, their values lie in one
 //! block, so that an effect which is filled again needs no block of its own.
 
-ghost use Rattle.std.specs.Prelude.{◌≡◌, ℕ, ◌+◌, ◌^◌, ◌≤◌, ◌<◌, ◌↔◌, [], ◌∷◌, ◌++◌, IfErr, IsTrue, Ok, Err, OnOk, Some, drop, length, replicate, slice_get, take, vec_len};
+ghost use Rattle.std.specs.Prelude.{◌≡◌, ℕ, ◌+◌, ◌^◌, ◌≤◌, ◌<◌, ◌==◌, ◌↔◌, [], ◌∷◌, ◌++◌, IfErr, IsTrue, Ok, Err, OnOk, Some, drop, length, replicate, slice_get, take, vec_len};
+ghost use Rattle.std.specs.List.{list_any};
 ghost use Rattle.rule_base.specs.Value.{nil};
 ghost use Rattle.rule_base.specs.Views.{element_in};
 ghost use Rattle.rule_base.specs.Term.{after_sets};
-ghost use Rattle.rule_base.specs.Effect.{is_gone, modified};
+ghost use Rattle.rule_base.specs.Effect.{is_gone, modified, removed_tags};
 ghost use Rattle.rule_base.specs.Step.{born};
 ghost use Rattle.rhs_actions.specs.EffectPlaces.{IsWithin, change_of, changes_in, sizes_of};
 ghost use Rattle.rule_base.specs.Memory.{value_count};
@@ -47,19 +48,22 @@ pub enum ChangeView<'a> {
 pub struct Effect {
     values: Vec<Value>,
     changes: Vec<Placed>,
+    /// The tags that the changes remove, in order.
+    gone: Vec<u64>,
     pieces: Vec<Piece>,
     halts: bool,
 }
 
 impl Model for Effect {
     ghost use Rattle.rule_base.specs.Effect.{Effect as TheEffect};
-    ghost use Rattle.rhs_actions.specs.EffectPlaces.{LieAmong, effect_in};
+    ghost use Rattle.std.specs.Prelude.{◌≡◌};
+    ghost use Rattle.rhs_actions.specs.EffectPlaces.{LieAmong, effect_in, tags_at};
 
     ghost Value = { TheEffect };
 
     ghost view = { λ e. effect_in e.values.items e.changes.items e.pieces.items e.halts };
 
-    ghost invariant = { λ e. LieAmong e.values.items e.changes.items };
+    ghost invariant = { λ e. LieAmong e.values.items e.changes.items × (e.gone.items ≡ tags_at e.changes.items) };
 }
 
 impl Effect {
@@ -70,6 +74,7 @@ impl Effect {
         Effect {
             values: Vec::new(alloc),
             changes: Vec::new(alloc),
+            gone: Vec::new(alloc),
             pieces: Vec::new(alloc),
             halts: false,
         }
@@ -81,6 +86,7 @@ impl Effect {
     {
         self.values.clear();
         self.changes.clear();
+        self.gone.clear();
         self.pieces.clear();
         self.halts = false;
     }
@@ -122,6 +128,14 @@ impl Effect {
         view(self.values.as_slice(), self.changes[at])
     }
 
+    /// The tags of the elements that it removes, in the order of the changes. They lie so, which is why
+    /// it takes no time.
+    pub fn removed_tags(&self) -> &[u64]
+        ensures { result.now ≡ removed_tags self.now.changes }
+    {
+        self.gone.as_slice()
+    }
+
     /// The pieces to be written, in order.
     pub fn pieces(&self) -> &[Piece]
         ensures { result.now ≡ self.now.pieces }
@@ -136,12 +150,12 @@ impl Effect {
         self.halts
     }
 
-    /// Whether the firing has removed or modified the element with this tag. It looks at one change
-    /// after another.
+    /// Whether the firing has removed or modified the element with this tag. It looks at one removed
+    /// tag after another.
     pub(crate) fn is_gone(&self, tag: u64) -> bool
         ensures { result ≡ is_gone tag self.now.changes }
     {
-        is_gone(tag, self.changes.as_slice())
+        is_among(tag, self.removed_tags())
     }
 
     /// Notes that the firing halts the run.
@@ -155,7 +169,11 @@ impl Effect {
     pub(crate) fn remove(&mut self, tag: u64) -> Result<(), OutOfMemory>
         ensures { OnOk result (self.new ≡ removed self.old tag) }
     {
-        self.changes.push(Placed::Remove(tag))?;
+        self.changes.reserve(1)?;
+        self.gone.reserve(1)?;
+        // From here on nothing fails.
+        self.changes.push_reserved(Placed::Remove(tag));
+        self.gone.push_reserved(tag);
         Ok(())
     }
 
@@ -199,6 +217,7 @@ impl Effect {
         set_last(&mut self.values, start, sets, binds)?;
         let size = self.values.len() - start;
         self.changes.reserve(2)?;
+        self.gone.reserve(1)?;
         // From here on nothing fails.
         self.changes.push_reserved(Placed::Remove(element.tag));
         self.changes.push_reserved(Placed::Make {
@@ -206,6 +225,7 @@ impl Effect {
             size,
             class: element.class,
         });
+        self.gone.push_reserved(element.tag);
         Ok(())
     }
 
@@ -265,18 +285,11 @@ fn made_values(changes: &[Placed]) -> usize
     count
 }
 
-/// Whether the changes remove the element with this tag, whatever values the others have.
-fn is_gone(tag: u64, changes: &[Placed]) -> bool
-    ensures { result ≡ is_gone tag (changes_in [] changes.now) }
+/// Whether the tag is one of these.
+fn is_among(tag: u64, tags: &[u64]) -> bool
+    ensures { result ≡ list_any (λ other. other == tag) tags.now }
 {
-    for change in changes {
-        if let Placed::Remove(gone) = change {
-            if *gone == tag {
-                return true;
-            }
-        }
-    }
-    false
+    tags.iter().any(|other| *other == tag)
 }
 
 /// Adds so many values, each of which is nil.

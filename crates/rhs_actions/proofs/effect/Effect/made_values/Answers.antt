@@ -11,5 +11,5 @@ use Rattle.rhs_actions.proofs.effect.Effect.made_values.Goals as goal
 pub returns : goal.returns
 returns c next =
     let inside = c.self.inside in
-    ap (λ (e : Effect). sum_by (λ (e : Element). length e.values) (born next e.changes)) (sym c.self.view_is) ∙ values-born inside.values.items inside.changes.items next c.self.invariant.within
+    ap (λ (e : Effect). sum_by (λ (e : Element). length e.values) (born next e.changes)) (sym c.self.view_is) ∙ values-born inside.values.items inside.changes.items next c.self.invariant.0.within
     ∙ ap sizes_of (sym c.as_slice.ensures.value) ∙ sym c.made_values.ensures

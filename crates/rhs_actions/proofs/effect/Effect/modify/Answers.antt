@@ -5,7 +5,7 @@ use Rattle.rule_base.specs.Effect.{modified}
 use Rattle.rhs_actions.specs.declared.effect.Placed.TheVariants.{Make, Remove}
 use Rattle.rhs_actions.specs.EffectPlaces.{effect_in}
 use Rattle.rhs_actions.specs.Acting.{reached}
-use Rattle.rhs_actions.proofs.EffectPlaceLemmas.{LieAmong-added, modified-is}
+use Rattle.rhs_actions.proofs.EffectPlaceLemmas.{LieAmong-added, modified-is, tags_at-added}
 use Rattle.rhs_actions.proofs.effect.Effect.modify.Goals as goal
 
 pub returns-clause-ok : goal.returns-clause-ok
@@ -22,7 +22,7 @@ returns-clause-ok c =
     let copied : now ≡ inside.values.items ++ e.values = search rules in
     subst (λ done. modified e c.args.sets.now (reached b done) ≡ Ok (reached b new)) c.self.view_is
     (modified-is b c.args.sets.now e inside.values.items now values inside.changes.items removed changes inside.pieces.items inside.halts c.len-start.result (c.len.result - c.len-start.result)
-    c.self.invariant.within copied (search rules) (search rules) set.ok set.before (search rules) (search rules) (search rules))
+    c.self.invariant.0.within copied (search rules) (search rules) set.ok set.before (search rules) (search rules) (search rules))
 
 pub invariant_of-self-2 : goal.invariant_of-self-2
 invariant_of-self-2 c =
@@ -37,4 +37,7 @@ invariant_of-self-2 c =
     let first : removed ≡ places ++ gone ∷ [] = search rules in
     let last : placed ≡ removed ++ come ∷ [] = search rules in
     let both = last ∙ ap (λ ps. ps ++ come ∷ []) first ∙ append_assoc places (gone ∷ []) (come ∷ []) in
-    LieAmong-added inside.values.items values places (gone ∷ come ∷ []) placed c.self.invariant (search rules) (search rules) both
+    let tags : c.push_reserved-3.new.self.items ≡ inside.gone.items ++ c.args.element.tag ∷ [] = search rules in (
+      LieAmong-added inside.values.items values places (gone ∷ come ∷ []) placed c.self.invariant.0 (search rules) (search rules) both,
+      tags_at-added places (gone ∷ come ∷ []) placed inside.gone.items c.push_reserved-3.new.self.items c.self.invariant.1 both tags,
+    )
