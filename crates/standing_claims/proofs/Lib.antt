@@ -1,0 +1,2 @@
+-- what footprints add to the words of their locks
+pub mod AmountLemmas
