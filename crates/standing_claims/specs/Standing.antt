@@ -51,6 +51,7 @@ pub record IsKept (s : Standing) (words : List ℕ) : Type 0 where
   pub rising : Rises (numbers_of s.claims)
   pub numbered : AllByRecursion (λ n. n ≤ s.given) (numbers_of s.claims)
   pub taken : AllByRecursion IsFootprint s.footprints
-  pub words : AreWordsOf s.footprints words
-  -- words are laid out before the first claim comes
-  pub laid : 0 < length s.claims + s.spare → length words ≡ lock_count
+  pub summed : AreWordsOf s.footprints words
+  -- there is a word for each lock, or none at all before there was room for a first claim
+  pub laid : 0 < length words → length words ≡ lock_count
+  pub ready : 0 < length s.claims + s.spare → 0 < length words

@@ -1,11 +1,10 @@
 //! Claims with the locks that they have taken, and searches among them.
 
-ghost use Rattle.std.specs.Prelude.{◌≡◌, ◌==◌, find, option_map};
+ghost use Rattle.std.specs.Prelude.{◌≡◌, ◌==◌};
 ghost use Rattle.std.specs.List.{position_or_len};
-ghost use Rattle.rule_base.specs.State.{same_choice};
-ghost use Rattle.standing_claims.specs.declared.claim.Claim.{Claim};
 ghost use Rattle.standing_claims.specs.declared.held.Held.{Held};
 ghost use Rattle.standing_claims.specs.Held.{claims_in};
+ghost use Rattle.standing_claims.specs.Standing.{number_of_choice};
 
 use crate::claim::Claim;
 use ops_text::Sequence;
@@ -32,8 +31,7 @@ pub fn place_of(held: &[Held], number: u64) -> usize
 
 /// The number of the first claim of this choice, if there is one.
 pub fn number_of(held: &[Held], choice: &Choice) -> Option<u64>
-    ensures { result ≡ option_map (λ (claim : Claim). claim.number)
-        (find (λ (claim : Claim). same_choice claim.candidate.choice choice.now) (claims_in held.now)) }
+    ensures { result ≡ number_of_choice (claims_in held.now) choice.now }
 {
     for one in held {
         if one.claim.candidate.choice.same(choice) {

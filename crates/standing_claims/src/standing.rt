@@ -11,7 +11,7 @@ ghost use Rattle.standing_claims.specs.Standing.{claim_numbered, claims_without,
 
 use crate::claim::Claim;
 use crate::held::{Held, number_of, place_of};
-use crate::words::{add_amounts, clear, subtract_amounts, untaken};
+use crate::words::{add_amounts, clear, lay_out, subtract_amounts};
 use interference::first_busy;
 use ops_text::{OutOfMemory, Sequence};
 use rule_base::{Busy, Candidate, Choice, Mode};
@@ -36,16 +36,14 @@ pub struct Standing {
 
 impl Model for Standing {
     ghost use Rattle.std.specs.Prelude.{◌+◌, ◌≤◌, vec_capacity, vec_len};
-    ghost use Rattle.standing_claims.specs.Held.{claims_in, footprints_in};
+    ghost use Rattle.standing_claims.specs.Held.{standing_with};
     ghost use Rattle.standing_claims.specs.Standing.{IsKept, Standing};
 
     ghost Value = { Standing };
 
-    ghost view = { λ s. record { claims = claims_in s.claims.items;
-        footprints = footprints_in s.claims.items; given = s.given; spare = s.spare } };
+    ghost view = { λ s. standing_with s.claims.items s.given s.spare };
 
-    ghost invariant = { λ s. IsKept (record { claims = claims_in s.claims.items;
-            footprints = footprints_in s.claims.items; given = s.given; spare = s.spare }) s.words.items
+    ghost invariant = { λ s. IsKept (standing_with s.claims.items s.given s.spare) s.words.items
         × (s.spare + vec_len s.claims ≤ vec_capacity s.claims) };
 }
 
@@ -134,7 +132,7 @@ impl Standing {
 
     /// Room for one more claim. The words of the locks are laid out by the first call; on average a later
     /// one takes a constant time. After want of memory all is as before.
-    pub fn reserve(&mut self, alloc: Global) -> Result<(), OutOfMemory>
+    pub fn reserve(&mut self) -> Result<(), OutOfMemory>
         ensures claims { self.new.claims ≡ self.old.claims }
         ensures footprints { self.new.footprints ≡ self.old.footprints }
         ensures given { self.new.given ≡ self.old.given }
@@ -142,9 +140,7 @@ impl Standing {
         ensures kept { self.old.spare ≤ self.new.spare }
     {
         self.claims.reserve(1)?;
-        if self.words.is_empty() {
-            self.words = untaken(alloc)?;
-        }
+        lay_out(&mut self.words)?;
         self.spare = self.spare.max(1);
         Ok(())
     }

@@ -1,6 +1,6 @@
 //! The words of all locks: what footprints add to them and take away again.
 
-ghost use Rattle.std.specs.Prelude.{◌≡◌, ◌+◌, ◌<◌, ◌≤◌, ◌^◌, ℕ, IfOk, get_or, length, replicate};
+ghost use Rattle.std.specs.Prelude.{◌≡◌, ◌+◌, ◌<◌, ◌≤◌, ◌^◌, ℕ, OnErr, OnOk, get_or, length, replicate};
 ghost use Rattle.std.specs.List.{AllByRecursion};
 ghost use Rattle.rule_base.specs.declared.lock.Mode.{Mode};
 ghost use Rattle.interference.specs.Locks.{lock_count};
@@ -9,18 +9,21 @@ ghost use Rattle.standing_claims.specs.Amounts.{amounts};
 use interference::amount;
 use ops_text::OutOfMemory;
 use rule_base::Mode;
-use std::alloc::Global;
 
 /// How many locks there are: 1,024 stripes, and 16 regions for each of 256 classes.
 const LOCKS: usize = 1024 + 16 * 256;
 
-/// The words of locks that nobody has taken.
-pub fn untaken(alloc: Global) -> Result<Vec<u64>, OutOfMemory>
-    ensures { IfOk result (λ words. words.items ≡ replicate lock_count 0) }
+/// Lays out a word for each lock, where there are none yet.
+pub fn lay_out(words: &mut Vec<u64>) -> Result<(), OutOfMemory>
+    requires { 0 < length words.old.items → length words.old.items ≡ lock_count }
+    ensures same { (lock : ℕ) → get_or words.new.items lock 0 ≡ get_or words.old.items lock 0 }
+    ensures ok { OnOk result (length words.new.items ≡ lock_count) }
+    ensures err { OnErr result (words.new.items ≡ words.old.items) }
 {
-    let mut words = Vec::new(alloc);
-    words.resize(LOCKS, 0)?;
-    Ok(words)
+    if words.is_empty() {
+        words.resize(LOCKS, 0)?;
+    }
+    Ok(())
 }
 
 /// Adds the amounts that a footprint asks for to the words of its locks.
