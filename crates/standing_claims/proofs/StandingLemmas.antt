@@ -7,6 +7,7 @@ use Rattle.std.proofs.lemmas.Bool.Decides.{nat_tests}
 use Rattle.std.proofs.lemmas.List.{get_or-map, length-map, map-append}
 use Rattle.std.proofs.lemmas.List.Edits.{length-remove}
 use Rattle.std.proofs.lemmas.List.Folds.{find_at}
+use Rattle.std.proofs.lemmas.List.Sums.{prefix_len-le-length}
 use Rattle.std.proofs.lemmas.Option.{slice_get-get_or, slice_get_past}
 use Rattle.rule_base.specs.declared.lock.Mode.{Mode}
 use Rattle.rule_base.specs.declared.instantiation.Candidate.{Candidate}
@@ -46,6 +47,12 @@ numbered_past held number past =
 pub numbered_within : (held : List Held) (number : ℕ) (h : Held) → place_in held number < length held → is_some (claim_numbered (claims_in held) number) ≡ true
 numbered_within held number h lt =
     ap is_some (numbered_at held number ∙ ap (option_map (λ (h : Held). h.claim)) (slice_get-get_or held (place_in held number) h lt))
+
+-- a place that isn't the end is within
+pub place_within : (held : List Held) (number place count len : ℕ) → place ≡ place_in held number → count ≡ length held → len ≡ count → place ≢ len → place < length held
+place_within held number place count len is same of_len other =
+    let le = prefix_len-le-length (λ (h : Held). not (h.claim.number == number)) held in
+    grind (arith)
 
 -- what is left without the claim of a number
 held_numbers : (held : List Held) → numbers_of (claims_in held) ≡ map number_in held
@@ -92,9 +99,16 @@ footprint_at held place h lt is =
 pub words_laid : (s : Standing) (words : List ℕ) → IsKept s words → 0 < length s.claims + s.spare → length words ≡ lock_count
 words_laid s words kept some = kept.laid (kept.ready some)
 
+pub words_there : (held : List Held) (given spare : ℕ) (words : List ℕ) (place : ℕ) → IsKept (standing_with held given spare) words → place < length held → 0 < length words
+words_there held given spare words place kept lt = kept.ready (omega (arith, lt, length-map held (λ (h : Held). h.claim)))
+
 pub locks_laid : (s : Standing) (words : List ℕ) (footprint : List (ℕ × Mode)) → IsKept s words → 0 < length words → AreOfLocks footprint → AllByRecursion (λ (d : ℕ × Mode). d.0 < length words) footprint
 locks_laid s words footprint kept some of_locks =
     Each-weaker (λ (d : ℕ × Mode). d.0 < lock_count) (λ (d : ℕ × Mode). d.0 < length words) (λ d lt. omega (arith, lt, kept.laid some)) footprint of_locks
+
+pub no_words : (words : List ℕ) → length words ≡ 0 → words ≡ []
+no_words [] none = refl
+no_words (word ∷ words) none = absurd (omega (arith, none))
 
 -- nothing is busy before words are laid out
 pub busy-none : (s : Standing) (words : List ℕ) (footprint : List (ℕ × Mode)) → IsKept s words → words ≡ [] → None ≡ first_busy (word_of s.footprints) footprint
