@@ -1,5 +1,5 @@
 -- What footprints add to the words of their locks, and what they take away from them.
-use Rattle.std.proofs.Common.{◌≡◌, ◌≢◌, ℕ, ◌+◌, ◌-◌, ◌*◌, ◌<◌, ◌≤◌, ◌^◌, List, [], ◌∷◌, ◌++◌, Bool, true, false, if◌then◌else◌, not, Option, Some, None, inl, inr, drop, find, get_or, length, map, option_map, replicate, set, ◌==◌, refl, sym, ◌∙◌, ap, arith}
+use Rattle.std.proofs.Common.{◌≡◌, ◌≢◌, ℕ, ◌+◌, ◌-◌, ◌*◌, ◌<◌, ◌≤◌, List, [], ◌∷◌, ◌++◌, Bool, true, false, if◌then◌else◌, not, Option, Some, None, inl, inr, drop, find, get_or, length, map, option_map, replicate, set, ◌==◌, refl, sym, ◌∙◌, ap, arith}
 use Rattle.std.specs.List.{AllByRecursion, remove}
 use Rattle.std.specs.Option.{option_map_or}
 use Rattle.std.proofs.lemmas.Bool.{cases_lt, eqb-true}
@@ -9,7 +9,6 @@ use Rattle.std.proofs.lemmas.List.Sums.{sum_by-cons, sum_by-remove, sum_by_push}
 use Rattle.std.proofs.lemmas.Option.{slice_get-get_or}
 use Rattle.rule_base.specs.declared.lock.Mode.{Mode}
 use Rattle.rule_base.specs.declared.lock.Mode.TheVariants.{Watch, Grow, Own}
-use Rattle.rule_base.specs.declared.lock.Busy.{Busy}
 use Rattle.rule_base.specs.Chains.{only_if}
 use Rattle.rule_base.specs.Memory.{Rises, RisesFrom}
 use Rattle.rule_base.proofs.EachLemmas.{Each-slice_get}
@@ -147,7 +146,7 @@ words-enough footprints i footprint words lt is rises before lock =
 -- words that nobody has taken
 pub words-none : (count : ℕ) → AreWordsOf [] (replicate count 0)
 words-none count lock = elim (cases_lt lock count) [
-  inl lt ↦ get_or-replicate count lock 0 0 lt
+  | inl lt ↦ get_or-replicate count lock 0 0 lt
   | inr le ↦ get_or_past (replicate count 0) lock 0 (omega (arith, le, length-replicate {A = ℕ} count 0))
 ]
 

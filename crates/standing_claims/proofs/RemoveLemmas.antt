@@ -1,8 +1,7 @@
 -- One element taken out of a list at its place, and what a filter by its number leaves.
-use Rattle.std.proofs.Common.{◌≡◌, ℕ, ◌+◌, ◌<◌, ◌≤◌, List, [], ◌∷◌, ◌++◌, Bool, true, false, not, cond, Option, Some, None, drop, filter, find, get_or, length, map, option_map, take, zero, suc, ◌==◌, refl, sym, ◌∙◌, ap, arith}
+use Rattle.std.proofs.Common.{◌≡◌, ℕ, ◌+◌, ◌<◌, ◌≤◌, List, [], ◌∷◌, ◌++◌, Bool, true, false, not, cond, Option, Some, filter, find, length, map, option_map, zero, suc, ◌==◌, refl, sym, ◌∙◌, ap, arith}
 use Rattle.std.specs.List.{AllByRecursion, position_or_len, remove, zip}
 use Rattle.std.proofs.lemmas.Bool.{eqb-true}
-use Rattle.std.proofs.lemmas.Bool.Decides.{nat_tests}
 use Rattle.rule_base.specs.Memory.{Rises, RisesFrom}
 
 -- what rises above a number rises above a smaller one
@@ -71,6 +70,10 @@ find-map f p (x ∷ xs) = find_step f (p (f x)) x (find (λ y. p (f y)) xs) (fin
 pub zip-maps : {X Y Z : Type 0} (f : X → Y) (g : X → Z) (xs : List X) → zip (map f xs) (map g xs) ≡ map (λ x. (f x, g x)) xs
 zip-maps f g [] = refl
 zip-maps f g (x ∷ xs) = ap (λ ys. (f x, g x) ∷ ys) (zip-maps f g xs)
+
+pub zip-map : {X Y : Type 0} (f : X → Y) (xs : List X) → zip xs (map f xs) ≡ map (λ x. (x, f x)) xs
+zip-map f [] = refl
+zip-map f (x ∷ xs) = ap (λ ys. (x, f x) ∷ ys) (zip-map f xs)
 
 pub map-map : {X Y Z : Type 0} (f : X → Y) (g : Y → Z) (xs : List X) → map g (map f xs) ≡ map (λ x. g (f x)) xs
 map-map f g [] = refl

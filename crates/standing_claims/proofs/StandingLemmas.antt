@@ -1,10 +1,9 @@
 -- What each change leaves of the claims that stand and of their words.
-use Rattle.std.proofs.Common.{◌≡◌, ◌≢◌, ℕ, ◌+◌, ◌-◌, ◌*◌, ◌<◌, ◌≤◌, ◌^◌, List, [], ◌∷◌, ◌++◌, Bool, true, false, not, ◌||◌, Option, Some, None, find, filter, get_or, is_some, length, map, option_map, slice_get, take, replicate, ◌==◌, refl, sym, ◌∙◌, ap, subst, arith, rules}
+use Rattle.std.proofs.Common.{◌≡◌, ◌≢◌, ℕ, ◌+◌, ◌-◌, ◌<◌, ◌≤◌, ◌^◌, List, [], ◌∷◌, ◌++◌, Bool, true, false, not, ◌||◌, None, filter, get_or, is_some, length, map, option_map, slice_get, take, ◌==◌, refl, sym, ◌∙◌, ap, subst, arith}
 use Rattle.std.specs.List.{AllByRecursion, position_or_len, remove, zip}
 use Rattle.std.proofs.Math.Seq.{take-append_seam}
-use Rattle.std.proofs.lemmas.Bool.{eqb-true}
 use Rattle.std.proofs.lemmas.Bool.Decides.{nat_tests}
-use Rattle.std.proofs.lemmas.List.{get_or-map, length-map, map-append}
+use Rattle.std.proofs.lemmas.List.{get_or-map, length-append, length-map, map-append}
 use Rattle.std.proofs.lemmas.List.Edits.{length-remove}
 use Rattle.std.proofs.lemmas.List.Folds.{find_at}
 use Rattle.std.proofs.lemmas.List.Sums.{prefix_len-le-length}
@@ -21,7 +20,7 @@ use Rattle.standing_claims.specs.Amounts.{AreOfLocks, AreWordsOf, IsFootprint, a
 use Rattle.standing_claims.specs.Standing.{IsKept, Standing, claim_numbered, claims_without, footprints_without, is_full, numbers_of}
 use Rattle.standing_claims.specs.Held.{claims_in, footprints_in, standing_with}
 use Rattle.standing_claims.proofs.AmountLemmas.{amounts-le, first_busy-none, word_of-le, words-enough, words-push, words-remove}
-use Rattle.standing_claims.proofs.RemoveLemmas.{Each-remove, Rises-push, Rises-remove, filter-numbered, find-map, map-filter, map-map, map-remove, remove-past, zip-maps}
+use Rattle.standing_claims.proofs.RemoveLemmas.{Each-remove, Rises-push, Rises-remove, filter-numbered, find-map, map-filter, map-map, map-remove, remove-past, zip-map, zip-maps}
 
 abbrev number_in : Held → ℕ
 number_in h = h.claim.number
@@ -81,6 +80,15 @@ footprints-without held number given spare rises =
     ∙ ap (map second) (map-filter pair_of (stays number) held)
     ∙ sym (ap (λ pairs. map second (filter (stays number) pairs)) (zip-maps (λ (h : Held). h.claim) (λ (h : Held). h.footprint) held))
 
+-- for callers: where each claim's footprint is a function of it, that stays so
+pub footprints_without-by : (s : Standing) (number : ℕ) (by : Claim → List (ℕ × Mode)) → s.footprints ≡ map by s.claims → footprints_without s number ≡ map by (claims_without s number)
+footprints_without-by s number by are =
+    let pair : Claim → Claim × List (ℕ × Mode) = λ claim. (claim, by claim) in
+    ap (λ footprints. map second (filter (stays number) (zip s.claims footprints))) are
+    ∙ ap (λ pairs. map second (filter (stays number) pairs)) (zip-map by s.claims)
+    ∙ ap (map second) (sym (map-filter pair (stays number) s.claims))
+    ∙ map-map pair second (claims_without s number)
+
 -- nothing goes with a number that no claim has
 pub claims-same : (held : List Held) (number given spare : ℕ) → Rises (numbers_of (claims_in held)) → place_in held number ≡ length held → claims_in held ≡ claims_without (standing_with held given spare) number
 claims-same held number given spare rises past =
@@ -129,9 +137,15 @@ few_before s words kept room =
 
 pub words_fit : (held : List Held) (given spare : ℕ) (words : List ℕ) (footprint : List (ℕ × Mode)) → IsKept (standing_with held given spare) words → is_full (standing_with held given spare) ≡ false → IsFootprint footprint → (lock : ℕ) → get_or words lock 0 + amounts footprint lock < 18446744073709551616
 words_fit held given spare words footprint kept room taken lock =
-    omega (arith,
-      few_before (standing_with held given spare) words kept room, length-map held (λ (h : Held). h.claim), length-map held (λ (h : Held). h.footprint),
-      kept.summed lock, word_of-le (footprints_in held) lock, amounts-le footprint lock taken.rising)
+    omega (
+      arith,
+      few_before (standing_with held given spare) words kept room,
+      length-map held (λ (h : Held). h.claim),
+      length-map held (λ (h : Held). h.footprint),
+      kept.summed lock,
+      word_of-le (footprints_in held) lock,
+      amounts-le footprint lock taken.rising,
+    )
 
 -- one claim more
 pub IsKept-push : (held held' : List Held) (given spare : ℕ) (words words' : List ℕ) (candidate : Candidate) (footprint : List (ℕ × Mode)) → IsKept (standing_with held given spare) words → is_full (standing_with held given spare) ≡ false → 0 < spare → IsFootprint footprint → held' ≡ held ++ record { claim = record { number = given + 1; candidate = candidate }; footprint = footprint } ∷ [] → ((lock : ℕ) → get_or words' lock 0 ≡ get_or words lock 0 + amounts footprint lock) → length words' ≡ length words → IsKept (standing_with held' (given + 1) (spare - 1)) words'
@@ -140,13 +154,13 @@ IsKept-push held held' given spare words words' candidate footprint kept room so
     let claims : claims_in held' ≡ claims_in held ++ last.claim ∷ [] = ap claims_in is ∙ map-append (λ (h : Held). h.claim) held (last ∷ []) in
     let footprints : footprints_in held' ≡ footprints_in held ++ footprint ∷ [] = ap footprints_in is ∙ map-append (λ (h : Held). h.footprint) held (last ∷ []) in
     let numbers : numbers_of (claims_in held') ≡ numbers_of (claims_in held) ++ (given + 1) ∷ [] = ap numbers_of claims ∙ map-append (λ (claim : Claim). claim.number) (claims_in held) (last.claim ∷ []) in
-    let count : length (claims_in held') ≡ length (claims_in held) + 1 = ap length claims ∙ Rattle.std.proofs.lemmas.List.length-append (claims_in held) (last.claim ∷ []) in
+    let count : length (claims_in held') ≡ length (claims_in held) + 1 = ap length claims ∙ length-append (claims_in held) (last.claim ∷ []) in
     let laid : length words ≡ lock_count = words_laid (standing_with held given spare) words kept (omega (arith, some)) in
     record {
       few = omega (arith, count, few_before (standing_with held given spare) words kept room);
       rising = subst Rises (sym numbers) (Rises-push (given + 1) (numbers_of (claims_in held)) kept.rising (Each-weaker (λ n. n ≤ given) (λ n. n < given + 1) (λ n le. omega (arith, le)) (numbers_of (claims_in held)) kept.numbered));
       numbered = subst (AllByRecursion (λ n. n ≤ given + 1)) (sym numbers)
-        (Each-append (λ n. n ≤ given + 1) (numbers_of (claims_in held)) ((given + 1) ∷ []) (Each-weaker (λ n. n ≤ given) (λ n. n ≤ given + 1) (λ n le. omega (arith, le)) (numbers_of (claims_in held)) kept.numbered) (omega arith, tt));
+          (Each-append (λ n. n ≤ given + 1) (numbers_of (claims_in held)) ((given + 1) ∷ []) (Each-weaker (λ n. n ≤ given) (λ n. n ≤ given + 1) (λ n le. omega (arith, le)) (numbers_of (claims_in held)) kept.numbered) (omega arith, tt));
       taken = subst (AllByRecursion IsFootprint) (sym footprints) (Each-append IsFootprint (footprints_in held) (footprint ∷ []) kept.taken (taken, tt));
       summed = subst (λ fs. AreWordsOf fs words') (sym footprints) (words-push (footprints_in held) footprint words words' taken.rising kept.summed more);
       laid = λ any. omega (arith, same, laid);
@@ -178,7 +192,7 @@ IsKept-remove held held' given spare words words' place h kept lt is left less s
       numbered = subst (AllByRecursion (λ n. n ≤ given)) (sym numbers) (Each-remove (λ n. n ≤ given) (numbers_of (claims_in held)) place kept.numbered);
       taken = subst (AllByRecursion IsFootprint) (sym footprints) (Each-remove IsFootprint (footprints_in held) place kept.taken);
       summed = subst (λ fs. AreWordsOf fs words') (sym footprints)
-        (words-remove (footprints_in held) place h.footprint words words' within (footprint_at held place h lt is) (footprint_taken held given spare words place h kept lt is).rising kept.summed less);
+          (words-remove (footprints_in held) place h.footprint words words' within (footprint_at held place h lt is) (footprint_taken held given spare words place h kept lt is).rising kept.summed less);
       laid = λ any. omega (arith, same, laid);
       ready = λ any. omega (arith, same, laid);
     }

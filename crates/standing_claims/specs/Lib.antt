@@ -1,6 +1,6 @@
--- what footprints add to the words of their locks
-pub mod Amounts
 -- the claims that stand
 pub mod Standing
--- and how they are held
+-- what footprints add to the words of their locks
+pub mod Amounts
+-- what the crate's functions promise each other
 pub mod Held

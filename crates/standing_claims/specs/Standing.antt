@@ -1,5 +1,5 @@
 -- What contracts see of the claims that stand.
-use Rattle.std.specs.Prelude.{◌≡◌, ℕ, ◌+◌, ◌-◌, ◌<◌, ◌≤◌, ◌^◌, List, [], ◌∷◌, ◌++◌, Bool, ◌||◌, not, Option, filter, find, length, map, option_map, ◌==◌}
+use Rattle.std.specs.Prelude.{◌≡◌, ℕ, ◌+◌, ◌-◌, ◌<◌, ◌≤◌, ◌^◌, List, Bool, ◌||◌, not, Option, filter, find, length, map, option_map, ◌==◌}
 use Rattle.std.specs.List.{AllByRecursion, zip}
 use Rattle.rule_base.specs.declared.lock.Mode.{Mode}
 use Rattle.rule_base.specs.declared.instantiation.Choice.{Choice}

@@ -1,6 +1,6 @@
 //! The claims that stand, and the words of their locks.
 
-ghost use Rattle.std.specs.Prelude.{◌≡◌, ◌+◌, ◌<◌, ◌≤◌, ◌==◌, [], ◌∷◌, ◌++◌, ◌↔◌, ℕ, IsTrue, OnOk, Some, cond, false, is_some, length, map, slice_get};
+ghost use Rattle.std.specs.Prelude.{◌≡◌, ◌+◌, ◌<◌, ◌≤◌, ◌==◌, [], ◌∷◌, ◌++◌, ◌↔◌, ℕ, IsTrue, OnErr, OnOk, Some, cond, false, is_some, length, map, slice_get};
 ghost use Rattle.std.specs.Option.{option_copied};
 ghost use Rattle.std.specs.List.{AllByRecursion};
 ghost use Rattle.rule_base.specs.declared.lock.Mode.{Mode};
@@ -136,8 +136,9 @@ impl Standing {
         ensures claims { self.new.claims ≡ self.old.claims }
         ensures footprints { self.new.footprints ≡ self.old.footprints }
         ensures given { self.new.given ≡ self.old.given }
-        ensures ok { OnOk result (0 < self.new.spare) }
         ensures kept { self.old.spare ≤ self.new.spare }
+        ensures ok { OnOk result (0 < self.new.spare) }
+        ensures err { OnErr result (self.new ≡ self.old) }
     {
         self.claims.reserve(1)?;
         lay_out(&mut self.words)?;

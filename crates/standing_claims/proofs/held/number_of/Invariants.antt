@@ -1,7 +1,5 @@
 -- The claims that are left have the first one of the choice.
-use Rattle.std.proofs.Common.{◌≡◌, drop, find, option_map}
-use Rattle.rule_base.specs.State.{same_choice}
-use Rattle.standing_claims.specs.declared.claim.Claim.{Claim}
+use Rattle.std.proofs.Common.{◌≡◌, drop}
 use Rattle.standing_claims.specs.Held.{claims_in}
 use Rattle.standing_claims.specs.Standing.{number_of_choice}
 use Rattle.standing_claims.proofs.held.number_of.Given as goal

@@ -1,5 +1,5 @@
 -- One demand more has been added.
-use Rattle.std.proofs.Common.{◌+◌, ◌<◌, ◌∙◌, arith, get_or, length, length-set, subst, sym, ℕ}
+use Rattle.std.proofs.Common.{◌+◌, ◌<◌, ◌∙◌, arith, get_or, length, length-set}
 use Rattle.rule_base.specs.declared.lock.Mode.TheVariants.{Watch}
 use Rattle.standing_claims.specs.Amounts.{amounts}
 use Rattle.standing_claims.proofs.AmountLemmas.{lock_within, words-added}

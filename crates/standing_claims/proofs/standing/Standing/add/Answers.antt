@@ -31,6 +31,6 @@ invariant_of-self c =
     let same : length words ≡ length inside.words.items = c.add_amounts.ensures.count ∙ ap (λ (ws : List ℕ). length ws) c.as_mut_slice.ensures.value in
     let back = refilled inside.words.len words (drop (length words) inside.words.items) (omega (arith, same, inside.words.ok.0)) in (
       subst (IsKept (standing_with held.new.self.items (inside.given + 1) (inside.spare - 1))) (sym back)
-      (IsKept-push inside.claims.items held.new.self.items inside.given inside.spare inside.words.items words c.args.candidate footprint c.self.invariant.0 room some taken held.ensures.items more same),
+          (IsKept-push inside.claims.items held.new.self.items inside.given inside.spare inside.words.items words c.args.candidate footprint c.self.invariant.0 room some taken held.ensures.items more same),
       omega (arith, some, c.self.invariant.1, held.ensures.len, held.ensures.capacity),
     )

@@ -1,5 +1,5 @@
 -- The words are those that the footprints add up to.
-use Rattle.std.proofs.Common.{◌≡◌, ◌<◌, ◌∙◌, List, None, ap, arith, get_or, length, rules, subst, sym, ℕ}
+use Rattle.std.proofs.Common.{◌≡◌, ◌<◌, ◌∙◌, List, None, ap, get_or, length, rules, subst, sym, ℕ}
 use Rattle.std.specs.List.{AllByRecursion}
 use Rattle.rule_base.specs.declared.lock.Mode.{Mode}
 use Rattle.interference.specs.Words.{first_busy, word_of}

@@ -95,7 +95,7 @@ invariant_of-self c =
     let same : length words ≡ length inside.words.items = c.subtract_amounts.ensures.count ∙ ap (λ (ws : List ℕ). length ws) c.as_mut_slice.ensures.value in
     let back = refilled inside.words.len words (drop (length words) inside.words.items) (omega (arith, same, inside.words.ok.0)) in (
       subst (IsKept (standing_with left.new.self.items inside.given (inside.spare + 1))) (sym back)
-      (IsKept-remove held left.new.self.items inside.given inside.spare inside.words.items words found h c.self.invariant.0 lt left.ensures.value left.ensures.items less same),
+          (IsKept-remove held left.new.self.items inside.given inside.spare inside.words.items words found h c.self.invariant.0 lt left.ensures.value left.ensures.items less same),
       omega (arith, c.self.invariant.1, left.ensures.len, left.ensures.capacity),
     )
 
