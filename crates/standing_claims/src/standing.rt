@@ -11,7 +11,7 @@ ghost use Rattle.standing_claims.specs.Standing.{claim_numbered, claims_without,
 
 use crate::claim::Claim;
 use crate::held::{Held, number_of, place_of};
-use crate::words::{add_amounts, clear, lay_out, subtract_amounts};
+use crate::words::{add_amounts, free_all, lay_out, subtract_amounts};
 use interference::first_busy;
 use ops_text::{OutOfMemory, Sequence};
 use rule_base::{Busy, Candidate, Choice, Mode};
@@ -201,7 +201,7 @@ impl Standing {
     {
         self.spare += self.claims.len();
         self.claims.clear();
-        clear(self.words.as_mut_slice());
+        free_all(self.words.as_mut_slice());
         self.given = 0;
     }
 }

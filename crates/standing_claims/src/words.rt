@@ -53,7 +53,7 @@ pub fn subtract_amounts(words: &mut [u64], footprint: &[(u32, Mode)])
 }
 
 /// Makes them the words of locks that nobody has taken.
-pub fn clear(words: &mut [u64])
+pub fn free_all(words: &mut [u64])
     ensures { words.new ≡ replicate (length words.old) 0 }
 {
     words.fill(0);
