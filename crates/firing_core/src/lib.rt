@@ -15,6 +15,7 @@ mod store;
 mod tags;
 mod workbench;
 
-pub use claims::{Claim, ClaimRefusal, Event, FaultSeen, How};
+pub use claims::{ClaimRefusal, Event, FaultSeen, How};
 pub use finishing::{Finished, finish, run_alone};
 pub use machine::Core;
+pub use standing_claims::Claim;

@@ -3,17 +3,18 @@
 
 ghost use Rattle.std.specs.Prelude.{◌≡◌, ◌+◌, ◌*◌, ◌≤◌, [], ◌∷◌, ◌++◌, IfOk, OnOk, length, option_map, slice_get};
 ghost use Rattle.std.specs.List.{AllByRecursion, range_with_len};
-ghost use Rattle.commit_journal.specs.Room.{FitsIn, room_for};
+ghost use Rattle.commit_journal.specs.Room.{FitsIn, room_for, room_without};
 ghost use Rattle.rule_base.specs.declared.element.Element.{Element};
 ghost use Rattle.rule_base.specs.Effect.{removed_tags};
 ghost use Rattle.rule_base.specs.Memory.{Rises, element_at, tags_of};
 ghost use Rattle.rule_base.specs.Step.{born, entry_of, without};
 ghost use Rattle.rule_base.specs.Views.{element_in};
-ghost use Rattle.firing_core.specs.Store.{IsPlaceOf, IsSameBesideMemory, came, memory_in};
+ghost use Rattle.firing_core.specs.Store.{IsPlaceOf, IsSameBesideMemory, came, living, memory_in};
 
 use crate::tags::place_of;
 use commit_journal::{Journal, Room};
 use ops_text::OutOfMemory;
+use rhs_actions::Effect;
 use rule_base::{Base, ElementView, Elements, Steps};
 use std::alloc::Global;
 use std::marker::Model;
@@ -164,6 +165,30 @@ impl Store {
     {
         self.journal.reserve(room)?;
         self.memory.reserve(room.elements)
+    }
+
+    /// Commits the effect of a firing: what it removes goes, and then what it makes comes, with the next
+    /// tags. It takes no memory.
+    pub fn commit<L: Ledger>(
+        &mut self,
+        rule: u32,
+        tags: &[u64],
+        effect: &Effect,
+        steps: &mut Steps<L>,
+    )
+        requires room { FitsIn (room_for tags.now (removed_tags effect.now.changes) (born self.old.next effect.now.changes) effect.now.pieces) self.old.room }
+        requires spare { length (born self.old.next effect.now.changes) ≤ self.old.spare }
+        ensures memory { memory_in self.new ≡ without (memory_in self.old) (removed_tags effect.now.changes) ++ born self.old.next effect.now.changes }
+        ensures base { self.new.base ≡ self.old.base }
+        ensures entries { self.new.entries ≡ self.old.entries ++ entry_of self.old.next (record { rule = rule; tags = tags.now }) effect.now ∷ [] }
+        ensures next { self.new.next ≡ self.old.next + length (born self.old.next effect.now.changes) }
+        ensures room { self.new.room ≡ room_without self.old.room (room_for tags.now (removed_tags effect.now.changes) (born self.old.next effect.now.changes) effect.now.pieces) }
+        ensures spare { self.old.spare ≤ self.new.spare + length (born self.old.next effect.now.changes) }
+        ensures steps { steps.new ≤ steps.old + 3 * length effect.now.changes + 1 }
+    {
+        self.remove_all(effect.removed_tags(), steps);
+        insert_all(&mut self.memory, effect.makes(), steps);
+        self.journal.commit(rule, tags, effect, steps);
     }
 
     /// Takes the elements with these tags away.
