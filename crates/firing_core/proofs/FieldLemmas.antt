@@ -1,28 +1,70 @@
--- The state that a core's fields hold: at its base, and where what has stopped matching was forgotten.
-use Rattle.std.proofs.Common.{◌≡◌, List, [], false, refl, ◌∙◌, ap}
+-- The state that a core's fields hold: at its base, and after a firing.
+use Rattle.std.proofs.Common.{◌≡◌, ◌+◌, List, [], ◌∷◌, ◌++◌, ◌||◌, Bool, true, false, length, Ok, Some, option_and_then, refl, sym, ◌∙◌, ap, subst, take, suc, zero}
+use Rattle.std.specs.List.{AllByRecursion}
+use Rattle.std.specs.Option.{option_map_or}
+use Rattle.std.proofs.lemmas.List.{map_push}
+use Rattle.rule_base.specs.declared.base.Base.{Base}
+use Rattle.rule_base.specs.declared.entry.Entry.{Entry}
 use Rattle.rule_base.specs.declared.instantiation.Choice.{Choice}
-use Rattle.rule_base.specs.State.{State, start}
-use Rattle.rule_base.specs.Step.{still_fired}
-use Rattle.rule_base.specs.Base.{StillMatch}
+use Rattle.rule_base.specs.declared.program.Program.{Program}
+use Rattle.rule_base.specs.Effect.{Effect}
+use Rattle.rule_base.specs.Memory.{HasSize}
+use Rattle.rule_base.specs.Sound.{sizes_of}
+use Rattle.rule_base.specs.State.{State, choices_of, start}
+use Rattle.rule_base.specs.Step.{born, committed, effect_of, entry_of, may_fire, memory_after, step}
+use Rattle.rule_base.specs.Run.{run}
+use Rattle.rule_base.proofs.MachineLemmas.{IsKeepingStep-sound}
+use Rattle.rule_base.proofs.StepLemmas.{run-append, step-from_parts}
+use Rattle.rule_base.proofs.EachLemmas.{Each-append}
 use Rattle.firing_core.specs.declared.machine.Core.TheInside.{Inside}
-use Rattle.firing_core.specs.CoreFields.{state_in}
-use Rattle.firing_core.specs.KeptChoices.{fired_by}
+use Rattle.firing_core.specs.CoreFields.{core_in, fired_in, state_in}
+use Rattle.firing_core.specs.CoreState.{CoreState}
+use Rattle.firing_core.specs.Kept.{IsKept}
+use Rattle.firing_core.specs.Store.{Stored, memory_in}
 use Rattle.firing_core.proofs.CommitLemmas.{same_state}
-use Rattle.firing_core.proofs.KeptChoiceLemmas.{fired_by-forgotten, fired_by-start}
 
 -- the fields of a core at its base
-pub state_in-start : (core : Inside) → StillMatch core.base.refraction core.program.value core.base.elements core.base.fired → core.memory ≡ core.base.elements → core.journal.next ≡ core.base.next → core.fired.items ≡ core.base.fired → core.journal.entries ≡ [] → core.halted ≡ false → state_in core ≡ start core.base
-state_in-start core matching memory next fired entries halted =
-    let refraction = core.base.refraction in
-    let program = core.program.value in
-    let of_kept = λ (kept : List Choice). fired_by refraction program core.base.elements core.base.fired [] kept in
-    let fired_is = ap (λ m. fired_by refraction program m core.base.fired core.journal.entries core.fired.items) memory ∙ ap (λ es. fired_by refraction program core.base.elements core.base.fired es core.fired.items) entries ∙ ap of_kept fired ∙ fired_by-start refraction program core.base.elements core.base.fired matching in
-    same_state (state_in core) (start core.base) memory next fired_is entries halted refl
+pub state_in-start : (core : Inside) → memory_in core.store ≡ core.store.base.elements → core.store.next ≡ core.store.base.next → core.store.entries ≡ [] → core.halted ≡ false → state_in core ≡ start core.store.base
+state_in-start core memory next entries halted =
+    same_state (state_in core) (start core.store.base) memory next (ap (fired_in core.program.value core.store.base) entries) entries halted refl
 
--- the state stays where of the choices that are kept as fired those are left that stay so
-pub state_in-forgotten : (core : Inside) (after : State) (kept : List Choice) → kept ≡ still_fired core.base.refraction core.program.value core.memory core.fired.items → after.memory ≡ core.memory → after.next ≡ core.journal.next → after.fired ≡ fired_by core.base.refraction core.program.value after.memory core.base.fired after.entries kept → after.entries ≡ core.journal.entries → after.halted ≡ core.halted → after.refraction ≡ core.base.refraction → after ≡ state_in core
-state_in-forgotten core after kept forgotten memory next fired entries halted refraction =
-    let r = core.base.refraction in
-    let program = core.program.value in
-    let fired_is = fired ∙ ap (λ m. fired_by r program m core.base.fired after.entries kept) memory ∙ ap (λ es. fired_by r program core.memory core.base.fired es kept) entries ∙ ap (fired_by r program core.memory core.base.fired core.journal.entries) forgotten ∙ fired_by-forgotten r program core.memory core.base.fired core.journal.entries core.fired.items in
-    same_state after (state_in core) memory next fired_is entries halted refraction
+-- what is fired after one entry more
+pub fired_in-push : (program : Program) (base : Base) (entries : List Entry) (s after : State) (entry : Entry) → run program (start base) (choices_of entries) ≡ Some s → step program s entry.choice ≡ Some after → fired_in program base (entries ++ entry ∷ []) ≡ after.fired
+fired_in-push program base entries s after entry ran steps =
+    let c = entry.choice in
+    let choices_are : choices_of (entries ++ entry ∷ []) ≡ choices_of entries ++ c ∷ [] = map_push (λ (e : Entry). e.choice) entries entry in
+    let last : run program s (c ∷ []) ≡ Some after = ap (option_and_then (λ (t : State). Some t)) steps in
+    let all : run program (start base) (choices_of (entries ++ entry ∷ [])) ≡ Some after =
+        ap (run program (start base)) choices_are ∙ run-append program (start base) (choices_of entries) (c ∷ []) ∙ ap (option_and_then (λ (t : State). run program t (c ∷ []))) ran ∙ last in
+    ap (λ o. option_map_or (λ (t : State). t.fired) o []) all
+
+-- fields with a store and a halt that a firing has changed hold the state after the step
+pub step-fields : (before : Inside) (store : Stored) (halted : Bool) (c : Choice) (done : Effect) → IsKept (core_in before) → may_fire before.program.value (state_in before) c ≡ true → effect_of before.program.value (memory_in before.store) c ≡ Some (Ok done) → store.base ≡ before.store.base → memory_in store ≡ memory_after (state_in before) done → store.next ≡ before.store.next + length (born before.store.next done.changes) → store.entries ≡ before.store.entries ++ entry_of before.store.next c done ∷ [] → halted ≡ (before.halted || done.halts) → step before.program.value (state_in before) c ≡ Some (state_in (record before { store = store; halted = halted }))
+step-fields before store halted c done kept may effect base memory next entries halts =
+    let program = before.program.value in
+    let s = state_in before in
+    let target = committed program s c done in
+    let steps : step program s c ≡ Some target = step-from_parts program s c done may effect in
+    let after = state_in (record before { store = store; halted = halted }) in
+    let fired : after.fired ≡ target.fired =
+        ap (λ b. fired_in program b store.entries) base ∙ ap (fired_in program before.store.base) entries ∙ fired_in-push program before.store.base before.store.entries s target (entry_of before.store.next c done) kept.lawful.ran steps in
+    let same : after ≡ target = same_state after target memory next fired entries halts (ap (λ (b : Base). b.refraction) base) in
+    steps ∙ ap (λ t. Some t) (sym same)
+
+-- the later part of a list whose items have a property
+each_right : {X : Type 0} (P : X → Type 0) (xs ys : List X) → AllByRecursion P (xs ++ ys) → AllByRecursion P ys
+each_right P [] ys all = all
+each_right P (x ∷ xs) ys all = each_right P xs ys all.1
+
+-- what a firing makes has sizes
+pub sized-born : (k : CoreState) (c : Choice) (done : Effect) → IsKept k → may_fire k.program k.state c ≡ true → effect_of k.program k.state.memory c ≡ Some (Ok done) → AllByRecursion (HasSize (sizes_of k.program.classes)) (born k.state.next done.changes)
+sized-born k c done kept may effect =
+    let target = committed k.program k.state c done in
+    let steps : step k.program k.state c ≡ Some target = step-from_parts k.program k.state c done may effect in
+    let keeps = IsKeepingStep-sound k.program k.state c target kept.lawful.sound kept.state steps in
+    each_right (HasSize (sizes_of k.program.classes)) _ (born k.state.next done.changes) keeps.state.elements.sized
+
+-- all of a list that was taken as far as it goes
+pub take_all : {X : Type 0} (xs : List X) → take (length xs) xs ≡ xs
+take_all [] = refl
+take_all (x ∷ xs) = ap (λ rest. x ∷ rest) (take_all xs)

@@ -33,7 +33,7 @@ tags_by-passed cond memory bindings next i e old within at passed so_far =
     so_far ∙ sym (append-nil _) ∙ ap (λ lists. tags_by false cond (take i memory) bindings next ++ lists) here ∙ sym (tags_by-take cond memory bindings next i e within at)
 
 -- the first unfired choice of the rules from one on is its own, or else that of the rules after it
-pub first_unfired-drop : (fired : List Choice) (memory : Memory) (number : ℕ) (rules : List Rule) (i : ℕ) (rule : Rule) → i < length rules → rule ≡ get_or rules i rule → first_unfired fired (flat_map (instantiations memory) (enumerate_from number (drop i rules))) ≡ option_or (first_unfired fired (instantiations memory (number, rule))) (first_unfired fired (flat_map (instantiations memory) (enumerate_from (number + 1) (drop (i + 1) rules))))
+pub first_unfired-drop : (fired : Choice → Bool) (memory : Memory) (number : ℕ) (rules : List Rule) (i : ℕ) (rule : Rule) → i < length rules → rule ≡ get_or rules i rule → first_unfired fired (flat_map (instantiations memory) (enumerate_from number (drop i rules))) ≡ option_or (first_unfired fired (instantiations memory (number, rule))) (first_unfired fired (flat_map (instantiations memory) (enumerate_from (number + 1) (drop (i + 1) rules))))
 first_unfired-drop fired memory number rules i rule within at =
     ap (λ rest. first_unfired fired (flat_map (instantiations memory) (enumerate_from number rest))) (drop_at_place rules i rule within at) ∙ find-append (is_unfired_in fired) (instantiations memory (number, rule)) (flat_map (instantiations memory) (enumerate_from (number + 1) (drop (i + 1) rules)))
 
@@ -46,9 +46,9 @@ or_other None other e = refl
 or_other (Some a) other e = absurd (false≢true (sym e))
 
 -- the rule at hand has the first unfired choice
-pub first_unfired-here : (fired : List Choice) (memory : Memory) (number : ℕ) (rules : List Rule) (i : ℕ) (rule : Rule) (found : Option Choice) → i < length rules → rule ≡ get_or rules i rule → found ≡ first_unfired fired (instantiations memory (number, rule)) → is_some found ≡ true → first_unfired fired (flat_map (instantiations memory) (enumerate_from number (drop i rules))) ≡ found
+pub first_unfired-here : (fired : Choice → Bool) (memory : Memory) (number : ℕ) (rules : List Rule) (i : ℕ) (rule : Rule) (found : Option Choice) → i < length rules → rule ≡ get_or rules i rule → found ≡ first_unfired fired (instantiations memory (number, rule)) → is_some found ≡ true → first_unfired fired (flat_map (instantiations memory) (enumerate_from number (drop i rules))) ≡ found
 first_unfired-here fired memory number rules i rule found within at is some = first_unfired-drop fired memory number rules i rule within at ∙ or_first (first_unfired fired (instantiations memory (number, rule))) _ (ap is_some (sym is) ∙ some) ∙ sym is
 
 -- or the rules after it do
-pub first_unfired-later : (fired : List Choice) (memory : Memory) (number : ℕ) (rules : List Rule) (i : ℕ) (rule : Rule) (found : Option Choice) → i < length rules → rule ≡ get_or rules i rule → found ≡ first_unfired fired (instantiations memory (number, rule)) → is_some found ≡ false → first_unfired fired (flat_map (instantiations memory) (enumerate_from number (drop i rules))) ≡ first_unfired fired (flat_map (instantiations memory) (enumerate_from (number + 1) (drop (i + 1) rules)))
+pub first_unfired-later : (fired : Choice → Bool) (memory : Memory) (number : ℕ) (rules : List Rule) (i : ℕ) (rule : Rule) (found : Option Choice) → i < length rules → rule ≡ get_or rules i rule → found ≡ first_unfired fired (instantiations memory (number, rule)) → is_some found ≡ false → first_unfired fired (flat_map (instantiations memory) (enumerate_from number (drop i rules))) ≡ first_unfired fired (flat_map (instantiations memory) (enumerate_from (number + 1) (drop (i + 1) rules)))
 first_unfired-later fired memory number rules i rule found within at is none = first_unfired-drop fired memory number rules i rule within at ∙ or_other (first_unfired fired (instantiations memory (number, rule))) _ (ap is_some (sym is) ∙ none)

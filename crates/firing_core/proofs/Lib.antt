@@ -7,10 +7,9 @@ pub mod AcceptanceLemmas
 pub mod FilterLemmas
 pub mod UnfiredLemmas
 -- the firing
-pub mod ChangeLemmas
-pub mod KeptChoiceLemmas
 pub mod FiringLemmas
 pub mod LawfulLemmas
+pub mod ChangeLemmas
 pub mod CommitLemmas
 pub mod FieldLemmas
 -- events

@@ -3,16 +3,16 @@ use Rattle.std.proofs.Common.{◌≡◌, List, [], ◌∷◌, Bool, true, false,
 use Rattle.std.specs.List.{AllByRecursion, find, list_all, list_any}
 use Rattle.rule_base.specs.declared.instantiation.Choice.{Choice}
 use Rattle.rule_base.specs.ConflictSet.{conflict_set}
-use Rattle.rule_base.specs.State.{has_fired, same_choice}
-use Rattle.rule_base.specs.Step.{is_listed, matches}
+use Rattle.rule_base.specs.State.{has_fired}
+use Rattle.rule_base.specs.Step.{matches}
 use Rattle.rule_base.proofs.EachLemmas.{Each-find}
 use Rattle.rule_base.proofs.ConflictSetLemmas.{AllMatch-conflict_set}
-use Rattle.rule_base.proofs.StillFiredLemmas.{AllListed-conflict_set}
+use Rattle.refraction_index.proofs.StillFiredLemmas.{last_firing_tells}
 use Rattle.firing_core.specs.declared.machine.Core.TheInside.{Inside}
 use Rattle.firing_core.specs.CoreFields.{core_in, HoldsKept, state_in}
 use Rattle.firing_core.specs.Firing.{IsNext}
-use Rattle.firing_core.specs.Unfired.{first_unfired}
-use Rattle.firing_core.proofs.KeptChoiceLemmas.{told_fired}
+use Rattle.firing_core.specs.Store.{memory_in}
+use Rattle.firing_core.specs.Unfired.{first_unfired, is_fired_by}
 
 -- where no element fails a test, each passes it
 all_head : {X : Type 0} (b rest : Bool) (x : X) (later : Option X) → cond (not b) (Some x) later ≡ None → (later ≡ None → rest ≡ true) → (b && rest) ≡ true
@@ -37,27 +37,28 @@ found_by : {X : Type 0} (p q : X → Bool) (xs : List X) → AllByRecursion (λ 
 found_by p q [] same = refl
 found_by p q (x ∷ xs) same = ap (λ b. cond (not b) (Some x) (find (λ y. not (p y)) xs)) same.0 ∙ ap (λ later. cond (not (q x)) (Some x) later) (found_by p q xs same.1)
 
--- what is kept as fired tells of each choice of the conflict set whether it has fired
-kept_fired : (core : Inside) (choices : List Choice) → HoldsKept core → AllByRecursion (λ (c : Choice). is_listed core.program.value core.memory c ≡ true) choices → AllByRecursion (λ (c : Choice). matches core.program.value core.memory c ≡ true) choices → AllByRecursion (λ (c : Choice). list_any (same_choice c) core.fired.items ≡ has_fired (state_in core) c) choices
-kept_fired core [] kept listed matching = tt
-kept_fired core (c ∷ choices) kept listed matching =
-    (told_fired core.base.refraction core.program.value core.journal.next core.memory core.base.fired core.journal.entries core.fired.items c kept.fired listed.0 matching.0, kept_fired core choices kept listed.1 matching.1)
+-- its last firing tells of each choice of the conflict set whether it is fired
+told_fired : (core : Inside) (choices : List Choice) → HoldsKept core → AllByRecursion (λ (c : Choice). matches core.program.value (memory_in core.store) c ≡ true) choices → AllByRecursion (λ (c : Choice). is_fired_by core.program.value core.store.base (memory_in core.store) core.store.entries c ≡ has_fired (state_in core) c) choices
+told_fired core [] kept matching = tt
+told_fired core (c ∷ choices) kept matching =
+    let lawful = kept.kept.lawful in
+    (sym (last_firing_tells core.program.value core.store.base (state_in core) c lawful.sound lawful.began lawful.ran matching.0), told_fired core choices kept matching.1)
+
+is_next : (core : Inside) (found : Option Choice) → HoldsKept core → found ≡ find (λ c. not (has_fired (state_in core) c)) (conflict_set core.program.value (memory_in core.store)) → IsNext (core_in core) found
+is_next core None kept is = all_from_none (has_fired (state_in core)) (conflict_set core.program.value (memory_in core.store)) (sym is)
+is_next core (Some c) kept is =
+    let choices = conflict_set core.program.value (memory_in core.store) in
+    let first = fails_first (has_fired (state_in core)) choices c (sym is) in
+    record {
+      matching = Each-find (λ (c : Choice). matches core.program.value (memory_in core.store) c ≡ true) (λ (c : Choice). not (has_fired (state_in core) c)) choices c (AllMatch-conflict_set core.program.value (memory_in core.store) kept.kept.state.elements.rising) (sym is);
+      unfired = first.0;
+      not_quiet = first.1;
+    }
 
 -- the answer of the filters says what the core's call promises
-pub first_unfired_is : (core : Inside) (found : Option Choice) → HoldsKept core → found ≡ first_unfired core.fired.items (conflict_set core.program.value core.memory) → IsNext (core_in core) found
+pub first_unfired_is : (core : Inside) (found : Option Choice) → HoldsKept core → found ≡ first_unfired (is_fired_by core.program.value core.store.base (memory_in core.store) core.store.entries) (conflict_set core.program.value (memory_in core.store)) → IsNext (core_in core) found
 first_unfired_is core found kept is =
-    let choices = conflict_set core.program.value core.memory in
-    let rises = kept.kept.state.elements.rising in
-    let fired = kept_fired core choices kept (AllListed-conflict_set core.program.value core.memory rises) (AllMatch-conflict_set core.program.value core.memory rises) in
-    is_next core found kept (is ∙ found_by (λ c. list_any (same_choice c) core.fired.items) (has_fired (state_in core)) choices fired)
-  where
-    is_next : (core : Inside) (found : Option Choice) → HoldsKept core → found ≡ find (λ c. not (has_fired (state_in core) c)) (conflict_set core.program.value core.memory) → IsNext (core_in core) found
-    is_next core None kept is = all_from_none (has_fired (state_in core)) (conflict_set core.program.value core.memory) (sym is)
-    is_next core (Some c) kept is =
-        let choices = conflict_set core.program.value core.memory in
-        let first = fails_first (has_fired (state_in core)) choices c (sym is) in
-        record {
-          matching = Each-find (λ (c : Choice). matches core.program.value core.memory c ≡ true) (λ (c : Choice). not (has_fired (state_in core) c)) choices c (AllMatch-conflict_set core.program.value core.memory kept.kept.state.elements.rising) (sym is);
-          unfired = first.0;
-          not_quiet = first.1;
-        }
+    let memory = memory_in core.store in
+    let choices = conflict_set core.program.value memory in
+    let told = told_fired core choices kept (AllMatch-conflict_set core.program.value memory kept.kept.state.elements.rising) in
+    is_next core found kept (is ∙ found_by (is_fired_by core.program.value core.store.base memory core.store.entries) (has_fired (state_in core)) choices told)

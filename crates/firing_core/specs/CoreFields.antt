@@ -1,27 +1,42 @@
 -- How a core's fields give what contracts see of it.
-use Rattle.std.specs.Prelude.{[], None}
-use Rattle.rule_base.specs.State.{State}
+use Rattle.std.specs.Prelude.{ℕ, ◌≤◌, List, [], None, length, take}
+use Rattle.std.specs.List.{AllByRecursion}
+use Rattle.std.specs.Option.{option_map_or}
+use Rattle.rule_base.specs.declared.base.Base.{Base}
+use Rattle.rule_base.specs.declared.entry.Entry.{Entry}
+use Rattle.rule_base.specs.declared.instantiation.Choice.{Choice}
+use Rattle.rule_base.specs.declared.program.Program.{Program}
+use Rattle.rule_base.specs.Memory.{HasSize}
+use Rattle.rule_base.specs.Sound.{sizes_of}
+use Rattle.rule_base.specs.State.{State, choices_of, start}
+use Rattle.rule_base.specs.Run.{run}
+use Rattle.commit_journal.specs.Entries.{born_in}
+use Rattle.refraction_index.specs.Firings.{Index, Tells}
 use Rattle.firing_core.specs.declared.machine.Core.TheInside.{Inside}
 use Rattle.firing_core.specs.CoreState.{CoreState}
 use Rattle.firing_core.specs.Kept.{IsKept}
-use Rattle.firing_core.specs.KeptChoices.{KeepFired, fired_by}
+use Rattle.firing_core.specs.Store.{memory_in}
+
+-- what is fired where the run from the base with these entries has led
+abbrev pub fired_in : Program → Base → List Entry → List Choice
+fired_in program base entries = option_map_or (λ (s : State). s.fired) (run program (start base) (choices_of entries)) []
 
 -- the state that the fields hold
 abbrev pub state_in : Inside → State
 state_in core = record {
-  memory = core.memory;
-  next = core.journal.next;
-  fired = fired_by core.base.refraction core.program.value core.memory core.base.fired core.journal.entries core.fired.items;
-  entries = core.journal.entries;
+  memory = memory_in core.store;
+  next = core.store.next;
+  fired = fired_in core.program.value core.store.base core.store.entries;
+  entries = core.store.entries;
   halted = core.halted;
-  refraction = core.base.refraction;
+  refraction = core.store.base.refraction;
 }
 
 -- the core that the fields hold
 abbrev pub core_in : Inside → CoreState
 core_in core = record {
   program = core.program.value;
-  base = core.base;
+  base = core.store.base;
   budget = core.budget;
   state = state_in core;
   claims = [];
@@ -29,8 +44,14 @@ core_in core = record {
   fault = None;
 }
 
+-- the index has taken in some of the entries, and tells of them
+pub record IsIndexOf (before : List Choice) (entries : List Entry) (index : Index) : Type 0 where
+  pub within : index.seen ≤ length entries
+  pub tells : Tells before (take index.seen entries) index
+
 -- that core is lawful, and ready for its next firing
 pub record HoldsKept (core : Inside) : Type 0 where
   pub kept : IsKept (core_in core)
-  -- what is kept as fired tells what has fired
-  pub fired : KeepFired core.base.refraction core.journal.next core.memory (state_in core).fired core.fired.items
+  pub index : IsIndexOf core.store.base.fired core.store.entries core.index
+  -- each element that was ever made has a size
+  pub born : AllByRecursion (HasSize (sizes_of core.program.value.classes)) (born_in core.store.entries)

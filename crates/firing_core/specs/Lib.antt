@@ -13,7 +13,6 @@ pub mod Unfired
 pub mod Firing
 pub mod Turn
 pub mod Kept
-pub mod KeptChoices
 pub mod CoreFields
 -- worked examples of events
 pub mod Examples

@@ -1,13 +1,23 @@
--- Which choices of a list are among those that have fired.
-use Rattle.std.specs.Prelude.{List, Bool, not, Option, find}
-use Rattle.std.specs.List.{list_any}
+-- Which choices are fired, told by their last firing, and the first of a list that isn't.
+use Rattle.std.specs.Prelude.{List, Bool, false, not, Option, find}
+use Rattle.std.specs.Option.{option_map_or}
+use Rattle.rule_base.specs.declared.base.Base.{Base}
+use Rattle.rule_base.specs.declared.entry.Entry.{Entry}
 use Rattle.rule_base.specs.declared.instantiation.Choice.{Choice}
-use Rattle.rule_base.specs.State.{same_choice}
+use Rattle.rule_base.specs.declared.program.Program.{Program}
+use Rattle.rule_base.specs.Memory.{Memory}
+use Rattle.refraction_index.specs.Firings.{fired_at}
+use Rattle.refraction_index.specs.StillFired.{is_still_fired}
 
--- whether the choice is not among these
-abbrev pub is_unfired_in : List Choice → Choice → Bool
-is_unfired_in fired c = not (list_any (same_choice c) fired)
+-- whether a choice that matches in this memory is fired, where the run from the base has these entries
+abbrev pub is_fired_by : Program → Base → Memory → List Entry → Choice → Bool
+is_fired_by program base memory entries c =
+    option_map_or (is_still_fired base.refraction program memory entries c) (fired_at base.fired entries c) false
+
+-- whether the choice is not fired, by a test that says which ones are
+abbrev pub is_unfired_in : (Choice → Bool) → Choice → Bool
+is_unfired_in fired c = not (fired c)
 
 -- the first of these choices that has not fired, or none where each has
-abbrev pub first_unfired : List Choice → List Choice → Option Choice
+abbrev pub first_unfired : (Choice → Bool) → List Choice → Option Choice
 first_unfired fired choices = find (is_unfired_in fired) choices

@@ -1,6 +1,6 @@
 //! Runs to their ending, on the caller's thread.
 
-ghost use Rattle.std.specs.Prelude.{◌≡◌, ◌<◌, ◌≤◌, true, false, IfOk};
+ghost use Rattle.std.specs.Prelude.{◌≡◌, ◌<◌, ◌≤◌, true, false, IfOk, Ok, OnOk, Some};
 ghost use Rattle.rule_base.specs.Sound.{IsSound};
 ghost use Rattle.rule_base.specs.Base.{IsLawfulBase};
 ghost use Rattle.rule_base.specs.Ending.{IsBudget, IsEnding};
@@ -8,16 +8,19 @@ ghost use Rattle.firing_core.specs.CoreState.{IsRunOf};
 ghost use Rattle.firing_core.specs.Lawful.{IsLawful};
 ghost use Rattle.firing_core.specs.FinishedRun.{GoesOn, IsFinishedRun};
 ghost use Rattle.rule_base.specs.State.{count};
-ghost use Rattle.firing_core.specs.Firing.{IsLeft};
+ghost use Rattle.rule_base.specs.Step.{effect_of, may_fire};
+ghost use Rattle.firing_core.specs.Firing.{Fires, IsLeft};
 ghost use Rattle.firing_core.specs.Turn.{IsTurn};
 
 use crate::Core;
 use crate::workbench::Workbench;
 use ops_text::OutOfMemory;
-use rhs_actions::EffectRefusal;
-use rule_base::{Base, Choice, Ending, Program};
+use rhs_actions::{Effect, EffectRefusal};
+use rule_base::{Base, Choice, Ending, Program, Steps};
 use std::alloc::Global;
+use std::marker::Brand;
 use std::sync::Arc;
+use std::sync::ledger::{Blank, Ledger};
 
 /// A core whose run has ended, and how.
 #[derive(Drop)]
@@ -46,11 +49,41 @@ pub fn finish(alloc: Global, core: Core) -> Result<Finished, OutOfMemory>
     let mut core = core;
     let mut bench = Workbench::new(alloc)?;
     loop {
-        match next_turn(alloc, &core, &mut bench)? {
-            Turn::Fire(choice) => core.commit(alloc, choice, &bench.effect)?,
+        match next_turn(alloc, &mut core, &mut bench)? {
+            Turn::Fire(choice) => fire_uncounted(&mut core, &choice, &bench.effect)?,
             Turn::End(ending) => return Ok(Finished { core, ending }),
         }
     }
+}
+
+/// Fires a choice with its effect, where nobody counts the steps.
+fn fire_uncounted(core: &mut Core, choice: &Choice, effect: &Effect) -> Result<(), OutOfMemory>
+    requires within { count core.old.state < core.old.budget }
+    requires may_fire { may_fire core.old.program core.old.state choice.now ≡ true }
+    requires effect { effect_of core.old.program core.old.state.memory choice.now ≡ Some (Ok effect.now) }
+    ensures { OnOk result (Fires core.old core.new choice.now) }
+{
+    fire_on::<Brand>(core, choice, effect, Blank::new(1))
+}
+
+/// The same, on a ledger of its own.
+fn fire_on<L: Ledger>(
+    core: &mut Core,
+    choice: &Choice,
+    effect: &Effect,
+    blank: Blank,
+) -> Result<(), OutOfMemory>
+    requires within { count core.old.state < core.old.budget }
+    requires may_fire { may_fire core.old.program core.old.state choice.now ≡ true }
+    requires effect { effect_of core.old.program core.old.state.memory choice.now ≡ Some (Ok effect.now) }
+    requires name { blank.name ≡ L.name }
+    requires parts { blank.parts ≡ L.parts }
+    requires one { blank.parts ≡ 1 }
+    ensures { OnOk result (Fires core.old core.new choice.now) }
+{
+    let mut steps = Steps::<L>::new(blank);
+    core.fire(choice, effect, &mut steps)?;
+    Ok(())
 }
 
 /// Runs a program from a base to an ending.
@@ -74,15 +107,20 @@ pub fn run_alone(
 }
 
 /// What comes next: the effect of the choice that is to fire then lies on the bench.
-fn next_turn(alloc: Global, core: &Core, bench: &mut Workbench) -> Result<Turn, OutOfMemory>
-    ensures { IfOk result (IsTurn core.now bench.new.effect) }
+fn next_turn(
+    alloc: Global,
+    core: &mut Core,
+    bench: &mut Workbench,
+) -> Result<Turn, OutOfMemory>
+    ensures turn { IfOk result (IsTurn core.old bench.new.effect) }
+    ensures same { core.new ≡ core.old }
 {
     // Asked first, since every ending keeps within the budget.
     let has_budget = core.has_budget();
     if core.is_halted() {
         return Ok(Turn::End(Ending::Halted));
     }
-    match core.find_unfired(alloc)? {
+    match core.find_unfired(alloc, bench)? {
         None => Ok(Turn::End(Ending::Quiet)),
         Some(choice) if has_budget => evaluated(core, choice, bench),
         Some(_) => Ok(Turn::End(Ending::Spent { n: core.count() })),

@@ -6,31 +6,45 @@ ghost use Rattle.rule_base.specs.Memory.{IsMemory};
 ghost use Rattle.rule_base.specs.Sound.{IsSound, sizes_of};
 ghost use Rattle.rule_base.specs.ConflictSet.{tags_by, tag_lists, instantiations, conflict_set};
 ghost use Rattle.firing_core.specs.Matching.{MayMatch};
-ghost use Rattle.firing_core.specs.Unfired.{is_unfired_in, first_unfired};
+ghost use Rattle.commit_journal.specs.Entries.{born_in};
+ghost use Rattle.refraction_index.specs.Firings.{Tells};
+ghost use Rattle.refraction_index.specs.Numbers.{choice_with};
+ghost use Rattle.rule_base.specs.Memory.{HasSize};
+ghost use Rattle.std.specs.List.{AllByRecursion};
+ghost use Rattle.firing_core.specs.Unfired.{first_unfired, is_fired_by};
 
 use crate::acceptance::{accepts, accepts_some};
+use crate::fired::is_fired;
+use crate::store::Store;
 use element_tests::{Binds, unbind};
 use ops_text::{OutOfMemory, Sequence};
+use refraction_index::RefractionIndex;
 use rule_base::{Choice, Cond, Elements, Program, Rule};
 use std::alloc::Global;
 
-/// The first choice of the conflict set that is not among those that have fired, or none where each has
-/// fired. The instantiations of one rule are looked for at once, those of later rules only where all
-/// of its own fired before.
+/// The first choice of the conflict set that is not fired, or none where each is, by an index that has
+/// taken in the journal. The instantiations of one rule are looked for at once, those of later rules only
+/// where all of its own are fired.
 pub fn first_unfired(
     alloc: Global,
     program: &Program,
     memory: &Elements,
-    fired: &[Choice],
+    store: &Store,
+    index: &mut RefractionIndex,
 ) -> Result<Option<Choice>, OutOfMemory>
     requires sound { IsSound program.now }
-    requires memory { IsMemory (sizes_of program.now.classes) memory.now }
-    ensures { IfOk result
-        (λ found. found ≡ first_unfired fired.now (conflict_set program.now memory.now)) }
+    requires memory { AllByRecursion (HasSize (sizes_of program.now.classes)) memory.now }
+    requires born { AllByRecursion (HasSize (sizes_of program.now.classes)) (born_in store.now.entries) }
+    requires tells { Tells store.now.base.fired store.now.entries index.old }
+    ensures found { IfOk result (λ found. found ≡ first_unfired
+        (is_fired_by program.now store.now.base memory.now store.now.entries)
+        (conflict_set program.now memory.now)) }
+    ensures kept { index.new ≡ index.old }
 {
     let mut number = 0;
     for rule in program.rules.as_slice() {
-        let found = first_unfired_of(alloc, number, rule, memory, fired)?;
+        let lists = lists_of(alloc, rule, memory)?;
+        let found = first_unfired_of(alloc, program, number, lists.as_slice(), memory, store, index)?;
         if found.is_some() {
             return Ok(found);
         }
@@ -39,40 +53,49 @@ pub fn first_unfired(
     Ok(None)
 }
 
-/// The same among the instantiations of the rule with this number.
-fn first_unfired_of(
+/// The lists of tags that a rule's condition elements accept.
+fn lists_of(
     alloc: Global,
-    number: u32,
     rule: &Rule,
     memory: &Elements,
-    fired: &[Choice],
-) -> Result<Option<Choice>, OutOfMemory>
+) -> Result<Vec<Sequence<u64>>, OutOfMemory>
     requires { MayMatch rule.now.conds memory.now (no_bindings rule.now.vars) }
     ensures { IfOk result
-        (λ found. found ≡
-        first_unfired fired.now (instantiations memory.now (number, rule.now))) }
+        (λ lists. lists.items ≡ tag_lists rule.now.conds memory.now (no_bindings rule.now.vars)) }
 {
     let mut binds = Binds::new(alloc, rule.vars)?;
-    let lists = tag_lists(alloc, rule.conds.as_slice(), memory, &mut binds)?;
-    for tags in lists.as_slice() {
-        if !has_fired(number, tags.as_slice(), fired) {
-            let tags = Sequence::from_vec(Vec::from_slice(alloc, tags.as_slice())?);
-            return Ok(Some(Choice { rule: number, tags }));
+    tag_lists(alloc, rule.conds.as_slice(), memory, &mut binds)
+}
+
+/// The first choice of the rule with this number and tags of these lists that is not fired.
+fn first_unfired_of(
+    alloc: Global,
+    program: &Program,
+    number: u32,
+    lists: &[Sequence<u64>],
+    memory: &Elements,
+    store: &Store,
+    index: &mut RefractionIndex,
+) -> Result<Option<Choice>, OutOfMemory>
+    requires sound { IsSound program.now }
+    requires memory { AllByRecursion (HasSize (sizes_of program.now.classes)) memory.now }
+    requires born { AllByRecursion (HasSize (sizes_of program.now.classes)) (born_in store.now.entries) }
+    requires tells { Tells store.now.base.fired store.now.entries index.old }
+    ensures found { IfOk result (λ found. found ≡ first_unfired
+        (is_fired_by program.now store.now.base memory.now store.now.entries)
+        (map (choice_with number) lists.now)) }
+    ensures kept { index.new ≡ index.old }
+{
+    for tags in lists {
+        let choice = Choice {
+            rule: number,
+            tags: Sequence::from_vec(Vec::from_slice(alloc, tags.as_slice())?),
+        };
+        if !is_fired(alloc, program, memory, store, index, &choice)? {
+            return Ok(Some(choice));
         }
     }
     Ok(None)
-}
-
-/// Whether this rule with these tags is among the choices.
-fn has_fired(number: u32, tags: &[u64], fired: &[Choice]) -> bool
-    ensures { not result ≡ is_unfired_in fired.now (record { rule = number; tags = tags.now }) }
-{
-    for choice in fired {
-        if number == choice.rule && tags == choice.tags.as_slice() {
-            return true;
-        }
-    }
-    false
 }
 
 /// The lists of tags that the condition elements accept under the row's bindings. The row is as

@@ -4,13 +4,12 @@
 
 mod acceptance;
 mod claims;
-mod commit;
 pub mod examples;
+mod fired;
 mod finishing;
 mod instantiations;
 pub mod laws;
 mod machine;
-mod refraction;
 mod store;
 mod tags;
 mod workbench;

@@ -1,6 +1,6 @@
 //! The core: a program, the base that a run begins from, and how far the run has come.
 
-ghost use Rattle.std.specs.Prelude.{◌≡◌, ◌<◌, ◌≤◌, ◌↔◌, true, Ok, Some, IfErr, IfOk, IsTrue, OnOk, OnErr};
+ghost use Rattle.std.specs.Prelude.{◌≡◌, ◌+◌, ◌*◌, ◌<◌, ◌≤◌, ◌↔◌, [], true, None, Ok, Some, IfErr, IfOk, IsTrue, OnOk, OnErr, length};
 ghost use Rattle.rule_base.specs.Sound.{IsSound};
 ghost use Rattle.rule_base.specs.State.{count, start};
 ghost use Rattle.rule_base.specs.Step.{effect_of, may_fire, matches};
@@ -10,31 +10,29 @@ ghost use Rattle.firing_core.specs.CoreState.{IsRunOf};
 ghost use Rattle.firing_core.specs.Lawful.{IsLawful};
 ghost use Rattle.firing_core.specs.Firing.{IsNext, Fires, TellsFault};
 
-use crate::commit::{born_elements, gone_tags};
 use crate::instantiations::first_unfired;
-use crate::refraction::{forget_gone, forget_stopped};
+use crate::store::Store;
 use crate::workbench::Workbench;
 use commit_journal::{Journal, Room};
-use ops_text::{OutOfMemory, copied};
+use ops_text::OutOfMemory;
+use refraction_index::RefractionIndex;
 use rhs_actions::{Effect, EffectRefusal, fire_into};
-use rule_base::{Base, Choice, Elements, Program};
+use rule_base::{Base, Choice, Elements, Program, Steps};
 use std::alloc::Global;
 use std::marker::Model;
 use std::sync::Arc;
+use std::sync::ledger::Ledger;
 
 /// A run of the recognise-act machine that can go on. It keeps that its state is where its journal
 /// leads from its base.
 #[derive(Drop)]
 pub struct Core {
     program: Arc<Program>,
-    base: Base,
     budget: u64,
-    memory: Elements,
-    /// Of the choices that have fired, those that may match yet; under `Renewed` also some that have stopped
-    /// matching. It grows with the choices that are left in the memory, not with the firings.
-    fired: Vec<Choice>,
-    journal: Journal,
+    store: Store,
     halted: bool,
+    /// When choices last fired. Firings don't fill it: whoever asks has it take in the journal first.
+    index: RefractionIndex,
 }
 
 impl Model for Core {
@@ -54,7 +52,8 @@ impl Model for Core {
 }
 
 impl Core {
-    /// A core at the beginning of a run from a base.
+    /// A core at the beginning of a run from a base. It takes time in proportion to the number of its
+    /// elements and fired choices, and copies no element.
     pub fn new(
         alloc: Global,
         program: Arc<Program>,
@@ -67,17 +66,14 @@ impl Core {
         ensures run { IfOk result (IsRunOf program.value base budget) }
         ensures begins { IfOk result (λ core. core.state ≡ start base) }
     {
-        let memory = base.elements.copy(alloc)?;
-        let fired = copied(alloc, base.fired.as_slice())?;
-        let journal = Journal::new(alloc, base.next);
+        let index = RefractionIndex::new(alloc, base.fired.as_slice())?;
+        let store = Store::new(alloc, base)?;
         Ok(Core {
             program,
-            base,
             budget,
-            memory,
-            fired,
-            journal,
+            store,
             halted: false,
+            index,
         })
     }
 
@@ -85,7 +81,7 @@ impl Core {
     pub fn next(&self) -> u64
         ensures { result ≡ self.now.state.next }
     {
-        self.journal.next()
+        self.store.journal().next()
     }
 
     /// How many firings there were.
@@ -93,14 +89,23 @@ impl Core {
         ensures value { result ≡ count self.now.state }
         ensures lawful { IsLawful self.now }
     {
-        self.journal.len() as u64
+        self.store.journal().len() as u64
     }
 
-    /// The elements of the working memory, in rising order of their tags.
-    pub fn memory(&self) -> &Elements
-        ensures { result.now ≡ self.now.state.memory }
+    /// How many elements are in working memory.
+    pub fn memory_len(&self) -> usize
+        ensures { result ≡ length self.now.state.memory }
     {
-        &self.memory
+        self.store.len()
+    }
+
+    /// The elements of the working memory, in rising order of their tags, as values of their own.
+    pub fn copy_memory(&self, alloc: Global) -> Result<Elements, OutOfMemory>
+        ensures { IfOk result (λ elements. elements ≡ self.now.state.memory) }
+    {
+        let mut elements = Elements::new(alloc);
+        self.store.add_to(&mut elements)?;
+        Ok(elements)
     }
 
     /// The journal: an entry for each firing, in order.
@@ -108,7 +113,7 @@ impl Core {
         ensures entries { result.now.entries ≡ self.now.state.entries }
         ensures next { result.now.next ≡ self.now.state.next }
     {
-        &self.journal
+        self.store.journal()
     }
 
     /// The program that the core runs.
@@ -118,18 +123,12 @@ impl Core {
         &self.program
     }
 
-    /// The memory and the journal of a run that goes on no more.
-    pub fn into_parts(self) -> (Elements, Journal)
-        ensures memory { result.0 ≡ self.state.memory }
-        ensures entries { result.1.entries ≡ self.state.entries }
-        ensures next { result.1.next ≡ self.state.next }
+    /// The journal of a run that goes on no more.
+    pub fn into_journal(self) -> Journal
+        ensures entries { result.entries ≡ self.state.entries }
+        ensures next { result.next ≡ self.state.next }
     {
-        let Core {
-            memory,
-            journal,
-            ..
-        } = self;
-        (memory, journal)
+        self.store.into_journal()
     }
 
     /// Whether a firing has halted the run.
@@ -148,11 +147,25 @@ impl Core {
     }
 
     /// The first choice of the conflict set that has not fired, or none where all have. It matches
-    /// every rule anew against the whole memory.
-    pub(crate) fn find_unfired(&self, alloc: Global) -> Result<Option<Choice>, OutOfMemory>
-        ensures { IfOk result (IsNext self.now) }
+    /// every rule anew against the whole memory, of which it lays a copy on the bench.
+    pub(crate) fn find_unfired(
+        &mut self,
+        alloc: Global,
+        bench: &mut Workbench,
+    ) -> Result<Option<Choice>, OutOfMemory>
+        ensures found { IfOk result (IsNext self.old) }
+        ensures same { self.new ≡ self.old }
     {
-        first_unfired(alloc, &self.program, &self.memory, self.fired.as_slice())
+        self.index.take_in(alloc, self.store.journal())?;
+        bench.memory.clear();
+        self.store.add_to(&mut bench.memory)?;
+        first_unfired(
+            alloc,
+            &self.program,
+            &bench.memory,
+            &self.store,
+            &mut self.index,
+        )
     }
 
     /// Evaluates the right-hand side of a choice that matches.
@@ -168,53 +181,34 @@ impl Core {
             (TellsFault (effect_of self.now.program self.now.state.memory choice.now)) }
     {
         let rule = &self.program.rules.as_slice()[choice.rule as usize];
-        bench.lay_out(&self.memory, choice.tags.as_slice())?;
+        bench.lay_out(&self.store, choice.tags.as_slice())?;
         fire_into(rule, &bench.elements, &mut bench.binds, &mut bench.effect)
     }
 
-    /// Fires a choice with its effect: one step of the machine. After want of memory all is as before.
-    pub(crate) fn commit(
+    /// Fires a choice with its effect, which is one step of the machine, and answers the place of its
+    /// entry in the journal, which counts from 0. The caller knows that the choice may fire, so nothing
+    /// is matched again. It takes memory only where the journal has to grow, and after want of it all
+    /// is as before.
+    pub fn fire<L: Ledger>(
         &mut self,
-        alloc: Global,
-        choice: Choice,
+        choice: &Choice,
         effect: &Effect,
-    ) -> Result<(), OutOfMemory>
+        steps: &mut Steps<L>,
+    ) -> Result<u64, OutOfMemory>
         requires within { count self.old.state < self.old.budget }
-        requires may_fire { may_fire self.old.program self.old.state choice ≡ true }
-        requires effect { effect_of self.old.program self.old.state.memory choice ≡ Some (Ok effect.now) }
-        ensures ok { OnOk result (Fires self.old self.new choice) }
+        requires may_fire { may_fire self.old.program self.old.state choice.now ≡ true }
+        requires effect { effect_of self.old.program self.old.state.memory choice.now ≡ Some (Ok effect.now) }
+        ensures fires { OnOk result (Fires self.old self.new choice.now) }
+        ensures place { IfOk result (λ place. place ≡ count self.old.state) }
         ensures err { OnErr result (self.new ≡ self.old) }
+        ensures steps { steps.new ≤ steps.old + 4 * length effect.now.changes + 4 }
     {
-        let gone = gone_tags(alloc, effect)?;
-        let next = self.journal.next();
-        let born = born_elements(alloc, next, effect)?;
-        let room = Room::for_entry(
-            choice.tags.as_slice(),
-            gone.as_slice(),
-            &born,
-            effect.pieces(),
-        )?;
-        self.journal.reserve(room)?;
-        forget_stopped(
-            alloc,
-            self.base.refraction,
-            &self.program,
-            &self.memory,
-            &mut self.fired,
-        )?;
-        self.memory.change(alloc, gone.as_slice(), &born)?;
+        let place = self.count();
+        let tags = choice.tags.as_slice();
+        self.store.reserve(Room::for_effect(tags, effect))?;
         // From here on nothing fails.
         self.halted = self.halted || effect.halts();
-        self.journal.push(
-            choice.rule,
-            choice.tags.as_slice(),
-            gone.as_slice(),
-            &born,
-            effect.pieces(),
-            effect.halts(),
-        );
-        self.fired.push_reserved(choice);
-        forget_gone(self.base.refraction, next, gone.as_slice(), &mut self.fired);
-        Ok(())
+        self.store.commit(choice.rule, tags, effect, steps);
+        Ok(place)
     }
 }

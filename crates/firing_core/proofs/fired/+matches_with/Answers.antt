@@ -7,7 +7,7 @@ use Rattle.rule_base.proofs.EachLemmas.{Each-find}
 use Rattle.element_tests.specs.Asking.{MayAsk}
 use Rattle.firing_core.specs.Matching.{MayMatch}
 use Rattle.firing_core.proofs.MatchingLemmas.{MayFilter-first, MayMatch-accepted, MayMatch-negated}
-use Rattle.firing_core.proofs.refraction.+matches_with.Goals as goal
+use Rattle.firing_core.proofs.fired.+matches_with.Goals as goal
 
 pub accepts_some-requires : goal.accepts_some-requires
 accepts_some-requires t c =
