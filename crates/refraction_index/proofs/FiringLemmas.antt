@@ -29,7 +29,7 @@ last_from-push count (x ∷ entries) e c =
     ∙ over (same_choice c e.choice) (count + 1 + length entries + 1) (count + length (x ∷ entries) + 1) (last_from (count + 1) entries c) (only_if (same_choice c x.choice) (count + 1)) (omega arith)
 
 -- one entry more in the journal
-fired_at-push : (before : List Choice) (entries : List Entry) (e : Entry) (c : Choice) → fired_at before (entries ++ e ∷ []) c ≡ cond (same_choice c e.choice) (Some (length entries + 1)) (fired_at before entries c)
+pub fired_at-push : (before : List Choice) (entries : List Entry) (e : Entry) (c : Choice) → fired_at before (entries ++ e ∷ []) c ≡ cond (same_choice c e.choice) (Some (length entries + 1)) (fired_at before entries c)
 fired_at-push before entries e c =
     ap (λ found. option_or found (only_if (list_any (same_choice c) before) 0)) (last_from-push 0 entries e c)
     ∙ over (same_choice c e.choice) (0 + length entries + 1) (length entries + 1) (last_from 0 entries c) (only_if (list_any (same_choice c) before) 0) (omega arith)
