@@ -6,6 +6,7 @@ pub mod NumberedLemmas
 pub mod BesideLemmas
 pub mod EntryLemmas
 pub mod RoomLemmas
+pub mod RuleRoomLemmas
 pub mod CommitLemmas
 -- the text of a journal
 pub mod JournalTextLemmas
