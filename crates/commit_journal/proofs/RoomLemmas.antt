@@ -57,6 +57,9 @@ room_plus-commutes a b = same_room (room_plus a b) (room_plus b a) (omega arith)
 pub room_plus-associates : (a b c : Room) → room_plus (room_plus a b) c ≡ room_plus a (room_plus b c)
 room_plus-associates a b c = same_room (room_plus (room_plus a b) c) (room_plus a (room_plus b c)) (omega arith) (omega arith) (omega arith) (omega arith) (omega arith) (omega arith)
 
+pub FitsIn-refl : (room : Room) → FitsIn room room
+FitsIn-refl room = record { entries = omega arith; tags = omega arith; gone = omega arith; elements = omega arith; values = omega arith; pieces = omega arith }
+
 pub FitsIn-trans : (a b c : Room) → FitsIn a b → FitsIn b c → FitsIn a c
 FitsIn-trans a b c first second = record {
   entries = omega (arith, first.entries, second.entries);

@@ -27,7 +27,7 @@ use Rattle.commit_journal.specs.declared.room.Room.{Room}
 use Rattle.commit_journal.specs.Room.{FitsIn, room_plus}
 use Rattle.commit_journal.specs.RuleRoom.{EntriesFitInRoomOfRule, most_born, most_gone, most_pieces, most_values, room_of_action}
 use Rattle.commit_journal.proofs.NumberedLemmas.{value_count-cons}
-use Rattle.commit_journal.proofs.RoomLemmas.{FitsIn-room_plus, FitsIn-trans, room_plus-associates, same_room}
+use Rattle.commit_journal.proofs.RoomLemmas.{FitsIn-refl, FitsIn-room_plus, FitsIn-trans, room_plus-associates, same_room}
 
 -- what actions add at most
 abbrev pub room_of_actions : List Element → List Action → Room
@@ -83,7 +83,7 @@ needed p = needed_by p.done.changes (length p.done.pieces)
 abbrev Adds : Room → Progress → Progress → Type 0
 Adds share old new = FitsIn (needed new) (room_plus (needed old) share)
 
--- it adds these changes and pieces
+-- where it adds these changes and pieces, and they fit
 adds_by : (share : Room) (old new : Progress) (added : List Change) (written : List Piece) → new.done.changes ≡ old.done.changes ++ added → new.done.pieces ≡ old.done.pieces ++ written → FitsIn (needed_by added (length written)) share → Adds share old new
 adds_by share old new added written changes pieces fits = record {
   entries = omega arith;
@@ -94,7 +94,7 @@ adds_by share old new added written changes pieces fits = record {
   pieces = omega (arith, ap length pieces, length-append old.done.pieces written, fits.pieces);
 }
 
--- it adds nothing
+-- where it adds nothing
 adds_nothing : (share : Room) (old new : Progress) → new.done.changes ≡ old.done.changes → new.done.pieces ≡ old.done.pieces → Adds share old new
 adds_nothing share old new changes pieces = record {
   entries = omega arith;
@@ -105,7 +105,7 @@ adds_nothing share old new changes pieces = record {
   pieces = omega (arith, ap length pieces);
 }
 
--- one step after another
+-- two steps add what both add
 adds_then : (share further : Room) (old mid new : Progress) → Adds share old mid → Adds further mid new → Adds (room_plus share further) old new
 adds_then share further old mid new first second =
     subst (FitsIn (needed new)) (room_plus-associates (needed old) share further)
@@ -137,12 +137,9 @@ adds_changes share p new added ok fits =
 abbrev removal : ℕ → Room
 removal count = record { entries = 0; tags = 0; gone = count; elements = 0; values = 0; pieces = 0 }
 
-fits_itself : (room : Room) → FitsIn room room
-fits_itself room = record { entries = omega arith; tags = omega arith; gone = omega arith; elements = omega arith; values = omega arith; pieces = omega arith }
-
 adds_unless_gone : (e : Element) (p : Progress) (gone : Bool) → Adds (removal 1) p (if gone then p else changing p (Remove e.tag ∷ []))
 adds_unless_gone e p true = adds_nothing (removal 1) p p refl refl
-adds_unless_gone e p false = adds_changes (removal 1) p (changing p (Remove e.tag ∷ [])) (Remove e.tag ∷ []) refl (fits_itself (removal 1))
+adds_unless_gone e p false = adds_changes (removal 1) p (changing p (Remove e.tag ∷ [])) (Remove e.tag ∷ []) refl (FitsIn-refl (removal 1))
 
 adds_removal : (designated : Option Element) (p : Progress) → Adds (removal 1) p (after_remove designated p)
 adds_removal None p = adds_nothing (removal 1) p p refl refl
