@@ -34,7 +34,7 @@ use Rattle.interference.proofs.DemandCodeLemmas.{Rises-gathered, locks_of}
 use Rattle.interference.proofs.MatchedLemmas.{matches-match_of}
 use Rattle.interference.proofs.OptionLemmas.{Held-some, both_hold}
 use Rattle.interference.proofs.WordLemmas.{words_tell_clashes}
-use Rattle.firing_core.specs.declared.claims.Claim.{Claim}
+use Rattle.standing_claims.specs.declared.claim.Claim.{Claim}
 use Rattle.firing_core.specs.declared.claims.How.TheVariants as how
 use Rattle.firing_core.specs.declared.claims.ClaimRefusal.TheVariants as refusal
 use Rattle.firing_core.specs.CoreState.{CoreState, ended}

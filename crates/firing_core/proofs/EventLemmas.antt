@@ -24,7 +24,7 @@ use Rattle.interference.proofs.ListLemmas.{Each-among, Each-from_among}
 use Rattle.interference.proofs.ModeLemmas.{goes-symmetric}
 use Rattle.interference.proofs.OptionLemmas.{Gave-some, GaveMapped-some, Held-some}
 use Rattle.interference.proofs.UndisturbedLemmas.{IsUndisturbed-step}
-use Rattle.firing_core.specs.declared.claims.Claim.{Claim}
+use Rattle.standing_claims.specs.declared.claim.Claim.{Claim}
 use Rattle.firing_core.specs.declared.claims.FaultSeen.{FaultSeen}
 use Rattle.firing_core.specs.declared.claims.Event.{Event}
 use Rattle.firing_core.specs.declared.claims.Event.TheVariants as event

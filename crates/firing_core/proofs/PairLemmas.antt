@@ -4,7 +4,7 @@ use Rattle.std.specs.List.{AllByRecursion, filter}
 use Rattle.rule_base.proofs.AmongLemmas.{Among}
 use Rattle.rule_base.proofs.EachLemmas.{Each-append, Each-filter}
 use Rattle.interference.proofs.ListLemmas.{Each-among}
-use Rattle.firing_core.specs.declared.claims.Claim.{Claim}
+use Rattle.standing_claims.specs.declared.claim.Claim.{Claim}
 use Rattle.firing_core.specs.CoreState.{CoreState}
 use Rattle.firing_core.specs.Lawful.{AreLawfulClaims, EachPair, GoTogether, IsHeld}
 

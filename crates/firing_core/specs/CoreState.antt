@@ -5,7 +5,7 @@ use Rattle.rule_base.specs.declared.base.Base.{Base}
 use Rattle.rule_base.specs.Chains.{only_if}
 use Rattle.rule_base.specs.State.{State, count}
 use Rattle.interference.specs.Pins.{first_answer}
-use Rattle.firing_core.specs.declared.claims.Claim.{Claim}
+use Rattle.standing_claims.specs.declared.claim.Claim.{Claim}
 use Rattle.firing_core.specs.declared.claims.FaultSeen.{FaultSeen}
 use Rattle.firing_core.specs.declared.claims.How.{How}
 use Rattle.firing_core.specs.declared.claims.How.TheVariants as how

@@ -14,7 +14,7 @@ use Rattle.rule_base.specs.Sound.{sizes_of}
 use Rattle.rule_base.specs.Effect.{Failure}
 use Rattle.rule_base.specs.State.{State, same_tags}
 use Rattle.rule_base.specs.Step.{effect_of, step}
-use Rattle.firing_core.specs.declared.claims.Claim.{Claim}
+use Rattle.standing_claims.specs.declared.claim.Claim.{Claim}
 use Rattle.firing_core.specs.declared.claims.FaultSeen.{FaultSeen}
 use Rattle.firing_core.specs.declared.claims.Event.{Event}
 use Rattle.firing_core.specs.declared.claims.Event.TheVariants as event

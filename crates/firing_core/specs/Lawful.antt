@@ -10,7 +10,7 @@ use Rattle.rule_base.specs.Base.{IsLawfulBase}
 use Rattle.rule_base.specs.Ending.{IsBudget, IsFault}
 use Rattle.interference.specs.Footprint.{Clash, footprint}
 use Rattle.interference.specs.PhantomLaw.{IsReady}
-use Rattle.firing_core.specs.declared.claims.Claim.{Claim}
+use Rattle.standing_claims.specs.declared.claim.Claim.{Claim}
 use Rattle.firing_core.specs.declared.claims.FaultSeen.{FaultSeen}
 use Rattle.firing_core.specs.CoreState.{CoreState}
 

@@ -18,7 +18,7 @@ use Rattle.rule_base.specs.State.{has_fired, same_choice}
 use Rattle.interference.specs.Footprint.{footprint}
 use Rattle.interference.specs.Pins.{first_answer}
 use Rattle.interference.specs.Words.{first_busy, word_of}
-use Rattle.firing_core.specs.declared.claims.Claim.{Claim}
+use Rattle.standing_claims.specs.declared.claim.Claim.{Claim}
 use Rattle.firing_core.specs.declared.claims.ClaimRefusal.{ClaimRefusal}
 use Rattle.firing_core.specs.declared.claims.ClaimRefusal.TheVariants as refusal
 use Rattle.firing_core.specs.CoreState.{CoreState, ended}

@@ -1,13 +1,6 @@
-//! Claims, and what happens to a core: as plain data.
+//! Why a candidate can't be claimed, and what happens to a core: as plain data.
 
 use rule_base::{Busy, Candidate, Choice, FaultCause};
-
-/// A claim that stands: its number, and the candidate that it was made for.
-#[derive(Debug, Drop)]
-pub struct Claim {
-    pub number: u64,
-    pub candidate: Candidate,
-}
 
 /// A firing that failed: its choice, its first failing action, from 1, and the cause.
 #[derive(Debug, Drop)]

@@ -13,6 +13,7 @@ mod machine;
 mod refraction;
 mod workbench;
 
-pub use claims::{Claim, ClaimRefusal, Event, FaultSeen, How};
+pub use claims::{ClaimRefusal, Event, FaultSeen, How};
 pub use finishing::{Finished, finish, run_alone};
 pub use machine::Core;
+pub use standing_claims::Claim;
