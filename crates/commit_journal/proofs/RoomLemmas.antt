@@ -1,11 +1,11 @@
--- The room that is left once an entry is taken in.
-use Rattle.std.proofs.Common.{◌≡◌, ℕ, ◌+◌, ◌^◌, ◌<◌, ◌≤◌, ap, arith, length}
+-- How rooms add and fit, and the room that is left once an entry is taken in.
+use Rattle.std.proofs.Common.{◌≡◌, ℕ, ◌+◌, ◌^◌, ◌<◌, ◌≤◌, ◌∙◌, ap, arith, length}
 use Rattle.rule_base.specs.declared.change.Piece.{Piece}
 use Rattle.commit_journal.specs.declared.room.Room.{Room}
 use Rattle.commit_journal.specs.Lists.{Kept}
 use Rattle.commit_journal.specs.Newborns.{Made}
 use Rattle.commit_journal.specs.Flat.{HaveRoom}
-use Rattle.commit_journal.specs.Room.{FitsIn, room_without}
+use Rattle.commit_journal.specs.Room.{FitsIn, room_plus, room_without}
 
 -- lists have less room by one list with so many items at most
 abbrev pub HasLeft : {A : Type 0} → Kept A → Kept A → ℕ → Type 0
@@ -40,3 +40,65 @@ HaveRoom-none room firings tags gone made pieces none next few =
       of_tags = omega (arith, no_elements, next);
       of_places = omega (arith, no_elements, few);
     }
+
+-- rooms with the same parts are the same
+pub same_room : (a b : Room) → a.entries ≡ b.entries → a.tags ≡ b.tags → a.gone ≡ b.gone → a.elements ≡ b.elements → a.values ≡ b.values → a.pieces ≡ b.pieces → a ≡ b
+same_room a b entries tags gone elements values pieces =
+    ap (λ n. record { entries = n; tags = a.tags; gone = a.gone; elements = a.elements; values = a.values; pieces = a.pieces }) entries
+    ∙ ap (λ n. record { entries = b.entries; tags = n; gone = a.gone; elements = a.elements; values = a.values; pieces = a.pieces }) tags
+    ∙ ap (λ n. record { entries = b.entries; tags = b.tags; gone = n; elements = a.elements; values = a.values; pieces = a.pieces }) gone
+    ∙ ap (λ n. record { entries = b.entries; tags = b.tags; gone = b.gone; elements = n; values = a.values; pieces = a.pieces }) elements
+    ∙ ap (λ n. record { entries = b.entries; tags = b.tags; gone = b.gone; elements = b.elements; values = n; pieces = a.pieces }) values
+    ∙ ap (λ n. record { entries = b.entries; tags = b.tags; gone = b.gone; elements = b.elements; values = b.values; pieces = n }) pieces
+
+pub room_plus-commutes : (a b : Room) → room_plus a b ≡ room_plus b a
+room_plus-commutes a b = same_room (room_plus a b) (room_plus b a) (omega arith) (omega arith) (omega arith) (omega arith) (omega arith) (omega arith)
+
+pub room_plus-associates : (a b c : Room) → room_plus (room_plus a b) c ≡ room_plus a (room_plus b c)
+room_plus-associates a b c = same_room (room_plus (room_plus a b) c) (room_plus a (room_plus b c)) (omega arith) (omega arith) (omega arith) (omega arith) (omega arith) (omega arith)
+
+pub FitsIn-refl : (room : Room) → FitsIn room room
+FitsIn-refl room = record { entries = omega arith; tags = omega arith; gone = omega arith; elements = omega arith; values = omega arith; pieces = omega arith }
+
+pub FitsIn-trans : (a b c : Room) → FitsIn a b → FitsIn b c → FitsIn a c
+FitsIn-trans a b c first second = record {
+  entries = omega (arith, first.entries, second.entries);
+  tags = omega (arith, first.tags, second.tags);
+  gone = omega (arith, first.gone, second.gone);
+  elements = omega (arith, first.elements, second.elements);
+  values = omega (arith, first.values, second.values);
+  pieces = omega (arith, first.pieces, second.pieces);
+}
+
+-- with the same room more, what fitted fits
+pub FitsIn-room_plus : (a b c : Room) → FitsIn a b → FitsIn (room_plus a c) (room_plus b c)
+FitsIn-room_plus a b c fits = record {
+  entries = omega (arith, fits.entries);
+  tags = omega (arith, fits.tags);
+  gone = omega (arith, fits.gone);
+  elements = omega (arith, fits.elements);
+  values = omega (arith, fits.values);
+  pieces = omega (arith, fits.pieces);
+}
+
+-- where both rooms fit, the first one does
+pub FitsIn-first : (a b room : Room) → FitsIn (room_plus a b) room → FitsIn a room
+FitsIn-first a b room fits = record {
+  entries = omega (arith, fits.entries);
+  tags = omega (arith, fits.tags);
+  gone = omega (arith, fits.gone);
+  elements = omega (arith, fits.elements);
+  values = omega (arith, fits.values);
+  pieces = omega (arith, fits.pieces);
+}
+
+-- and the second one fits in what the first one leaves
+pub FitsIn-room_without : (a b room : Room) → FitsIn (room_plus a b) room → FitsIn b (room_without room a)
+FitsIn-room_without a b room fits = record {
+  entries = omega (arith, fits.entries);
+  tags = omega (arith, fits.tags);
+  gone = omega (arith, fits.gone);
+  elements = omega (arith, fits.elements);
+  values = omega (arith, fits.values);
+  pieces = omega (arith, fits.pieces);
+}

@@ -2,8 +2,9 @@
 pub mod Entries
 pub mod EntryViews
 pub mod Room
--- laws of the entries of firings
+-- laws of the entries of firings, and the room that they need
 pub mod Commits
+pub mod RuleRoom
 -- its text
 pub mod JournalText
 -- how its arrays keep it

@@ -1,5 +1,5 @@
 -- Room: what a journal can take in without memory.
-use Rattle.std.specs.Prelude.{ℕ, ◌-◌, ◌≤◌, List, length, max}
+use Rattle.std.specs.Prelude.{ℕ, ◌+◌, ◌-◌, ◌≤◌, List, length, max}
 use Rattle.rule_base.specs.declared.change.Piece.{Piece}
 use Rattle.rule_base.specs.Memory.{Memory, value_count}
 use Rattle.commit_journal.specs.declared.room.Room.{Room}
@@ -16,6 +16,17 @@ pub record FitsIn (need room : Room) : Type 0 where
   pub elements : need.elements ≤ room.elements
   pub values : need.values ≤ room.values
   pub pieces : need.pieces ≤ room.pieces
+
+-- both rooms together
+abbrev pub room_plus : Room → Room → Room
+room_plus a b = record {
+  entries = a.entries + b.entries;
+  tags = a.tags + b.tags;
+  gone = a.gone + b.gone;
+  elements = a.elements + b.elements;
+  values = a.values + b.values;
+  pieces = a.pieces + b.pieces;
+}
 
 -- the room that is left once so much of it is taken
 abbrev pub room_without : Room → Room → Room

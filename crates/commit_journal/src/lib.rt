@@ -10,10 +10,12 @@ mod lists;
 mod newborns;
 mod page;
 mod room;
+mod rule_room;
 mod text;
 
 pub use entry_view::EntryView;
 pub use journal::Journal;
 pub use page::lay_out;
 pub use room::Room;
+pub use rule_room::room_of;
 pub use text::journal_text;

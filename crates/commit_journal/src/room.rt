@@ -1,7 +1,7 @@
 //! Room: what a journal can take in without memory.
 
 ghost use Rattle.std.specs.Prelude.{◌≡◌, ℕ, ◌+◌, IfOk, length};
-ghost use Rattle.commit_journal.specs.Room.{FitsIn, larger_room, room_for, room_without};
+ghost use Rattle.commit_journal.specs.Room.{FitsIn, larger_room, room_for, room_plus, room_without};
 ghost use Rattle.rule_base.specs.Effect.{removed_tags};
 ghost use Rattle.rule_base.specs.Memory.{value_count};
 ghost use Rattle.rule_base.specs.Step.{born};
@@ -71,6 +71,20 @@ impl Room {
         }
     }
 
+    /// Both together. It fails only where so much can't be counted.
+    pub fn plus(self, other: Room) -> Result<Room, OutOfMemory>
+        ensures { IfOk result (λ sum. sum ≡ room_plus self other) }
+    {
+        Ok(Room {
+            entries: sum(self.entries, other.entries)?,
+            tags: sum(self.tags, other.tags)?,
+            gone: sum(self.gone, other.gone)?,
+            elements: sum(self.elements, other.elements)?,
+            values: sum(self.values, other.values)?,
+            pieces: sum(self.pieces, other.pieces)?,
+        })
+    }
+
     /// What is left once so much is taken.
     pub(crate) fn without(self, taken: Room) -> Room
         requires { FitsIn taken self }
@@ -99,6 +113,13 @@ impl Room {
             pieces: self.pieces.max(other.pieces),
         }
     }
+}
+
+/// The sum, where it can be counted.
+fn sum(one: usize, other: usize) -> Result<usize, OutOfMemory>
+    ensures { IfOk result (λ sum. sum ≡ one + other) }
+{
+    one.checked_add(other).ok_or(OutOfMemory)
 }
 
 /// How many values the elements have together.

@@ -2,4 +2,6 @@
 #![tactic(auto)]
 
 #[cfg(test)]
+mod rule_rooms;
+#[cfg(test)]
 mod two_entries;
