@@ -2,6 +2,7 @@
 pub mod ListLemmas
 pub mod TagLemmas
 pub mod StoreLemmas
+pub mod StoredLemmas
 pub mod MatchingLemmas
 pub mod AcceptanceLemmas
 pub mod FilterLemmas

@@ -1,7 +1,7 @@
 //! The elements of a run where they lie, and which of them are in working memory. Each lies once: those of
 //! the base there, and those that firings made in the journal.
 
-ghost use Rattle.std.specs.Prelude.{◌≡◌, ◌+◌, ◌*◌, ◌≤◌, [], ◌∷◌, ◌++◌, IfOk, OnOk, length, option_map, slice_get};
+ghost use Rattle.std.specs.Prelude.{◌≡◌, ◌+◌, ◌*◌, ◌<◌, ◌≤◌, [], ◌∷◌, ◌++◌, IfOk, OnOk, length, option_map, slice_get};
 ghost use Rattle.std.specs.List.{AllByRecursion, range_with_len};
 ghost use Rattle.commit_journal.specs.Room.{FitsIn, room_for, room_without};
 ghost use Rattle.rule_base.specs.declared.element.Element.{Element};

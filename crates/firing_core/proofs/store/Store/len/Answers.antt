@@ -1,14 +1,11 @@
-use Rattle.std.proofs.Common.{rules, ◌≡◌, ◌+◌, ◌*◌, ◌≤◌, [], ◌∷◌, ◌++◌, IfOk, OnOk, length, option_map, slice_get, ℕ, ◌-◌, ◌<◌, ◌/◌, ◌%◌, Bool, true, false, nat_eq, nat_lt, List, slice_index_or, slice_set, bit_and, bit_or, Fits, w8, w32, w64, Bor, MutBor}
-use Rattle.std.specs.List.{AllByRecursion, range_with_len}
-use Rattle.commit_journal.specs.Room.{FitsIn, room_for, room_without}
-use Rattle.rule_base.specs.declared.element.Element.{Element}
-use Rattle.rule_base.specs.Effect.{removed_tags}
-use Rattle.rule_base.specs.Memory.{Rises, element_at, tags_of}
-use Rattle.rule_base.specs.Step.{born, entry_of, without}
-use Rattle.rule_base.specs.Views.{element_in}
-use Rattle.firing_core.specs.Store.{IsPlaceOf, IsSameBesideMemory, came, living, memory_in}
+-- There are as many elements as places.
+use Rattle.std.proofs.Common.{◌≡◌, length, ◌∙◌, subst, sym}
+use Rattle.firing_core.specs.Store.{Stored, memory_in}
+use Rattle.firing_core.proofs.StoredLemmas.{length-stored}
 use Rattle.firing_core.proofs.store.Store.len.Goals as goal
 
--- src/store.rt:86:5
 pub returns : goal.returns
-returns c = ?
+returns c =
+    let inside = c.self.inside in
+    subst (λ (s : Stored). c.len.result ≡ length (memory_in s)) c.self.view_is
+    (c.len.ensures ∙ sym (length-stored inside.base inside.journal.entries inside.journal.next inside.memory c.self.invariant))
