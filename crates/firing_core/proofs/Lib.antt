@@ -3,6 +3,7 @@ pub mod ListLemmas
 pub mod TagLemmas
 pub mod StoreLemmas
 pub mod BornLemmas
+pub mod StoredLemmas
 pub mod MatchingLemmas
 pub mod AcceptanceLemmas
 pub mod FilterLemmas

@@ -125,8 +125,10 @@ impl Store {
         if place < before {
             return Some(self.base.elements.at(place));
         }
-        if place < self.memory.came() {
-            self.journal.born(self.base.next + (place - before) as u64)
+        let came = self.memory.came();
+        if place < came {
+            // What came last has the tag before the next one.
+            self.journal.born(self.journal.next() - (came - place) as u64)
         } else {
             None
         }

@@ -19,22 +19,23 @@ pub returns-then-place-came : goal.returns-then-place-came
 returns-then-place-came c =
     let base = c.self.inside.base in
     let entries = c.self.inside.journal.entries in
-    let counted : c.came.result ≡ length base.elements + length (born_in entries) = c.came.ensures.value ∙ c.self.invariant.counted in
+    let counted : c.came-came.result ≡ length base.elements + length (born_in entries) = c.came-came.ensures.value ∙ c.self.invariant.counted in
     let before : c.len-before.result ≡ length base.elements = c.len-before.ensures.value in
     let lt : c.args.place - length base.elements < length (born_in entries) = grind (arith, nat_tests, counted, before) in
     let place_is : length base.elements + (c.args.place - length base.elements) ≡ c.args.place = grind (arith, nat_tests, before) in
-    let found = c.born.ensures ∙ ap (λ n. element_at (born_in entries) (base.next + (c.args.place - n))) before ∙ born-place base.elements (born_in entries) base.next (c.args.place - length base.elements) c.self.invariant.born lt ∙ ap (slice_get (came base entries)) place_is in
+    let tag_is : c.next.result - (c.came-came.result - c.args.place) ≡ base.next + (c.args.place - length base.elements) = grind (arith, nat_tests, counted, before, c.next.ensures, c.self.invariant.next_is) in
+    let found = c.born.ensures ∙ ap (element_at (born_in entries)) tag_is ∙ born-place base.elements (born_in entries) base.next (c.args.place - length base.elements) c.self.invariant.born lt ∙ ap (slice_get (came base entries)) place_is in
     subst (λ (s : Stored). option_map element_in c.born.result ≡ slice_get (came s.base s.entries) c.args.place) c.self.view_is found
 
 pub returns-else-place-came : goal.returns-else-place-came
 returns-else-place-came c =
     let base = c.self.inside.base in
     let entries = c.self.inside.journal.entries in
-    let counted : c.came.result ≡ length base.elements + length (born_in entries) = c.came.ensures.value ∙ c.self.invariant.counted in
+    let counted : c.came-came.result ≡ length base.elements + length (born_in entries) = c.came-came.ensures.value ∙ c.self.invariant.counted in
     let le : length base.elements + length (born_in entries) ≤ c.args.place = grind (arith, nat_tests, counted) in
     subst (λ (s : Stored). None ≡ slice_get (came s.base s.entries) c.args.place) c.self.view_is (sym (nothing_past base.elements (born_in entries) c.args.place le))
 
-pub overflow_add-self-inside : goal.overflow_add-self-inside
-overflow_add-self-inside c =
-    let counted : c.came.result ≡ length c.self.inside.base.elements + length (born_in c.self.inside.journal.entries) = c.came.ensures.value ∙ c.self.invariant.counted in
-    grind (arith, nat_tests, counted, c.len-before.ensures.value, c.self.invariant.next_is)
+pub overflow_sub-next : goal.overflow_sub-next
+overflow_sub-next c =
+    let counted : c.came-came.result ≡ length c.self.inside.base.elements + length (born_in c.self.inside.journal.entries) = c.came-came.ensures.value ∙ c.self.invariant.counted in
+    grind (arith, nat_tests, counted, c.len-before.ensures.value, c.next.ensures, c.self.invariant.next_is)

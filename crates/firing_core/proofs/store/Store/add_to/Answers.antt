@@ -1,0 +1,22 @@
+use Rattle.std.proofs.Common.{rules, ◌≡◌, ◌+◌, ◌*◌, ◌<◌, ◌≤◌, [], ◌∷◌, ◌++◌, IfOk, OnOk, length, option_map, slice_get, ℕ, ◌-◌, ◌/◌, ◌%◌, Bool, true, false, nat_eq, nat_lt, List, slice_index_or, slice_set, bit_and, bit_or, Fits, w8, w32, w64, Bor, MutBor}
+use Rattle.std.specs.List.{AllByRecursion, range_with_len}
+use Rattle.commit_journal.specs.Room.{FitsIn, room_for, room_without}
+use Rattle.rule_base.specs.declared.element.Element.{Element}
+use Rattle.rule_base.specs.Effect.{removed_tags}
+use Rattle.rule_base.specs.Memory.{Rises, element_at, tags_of}
+use Rattle.rule_base.specs.Step.{born, entry_of, without}
+use Rattle.rule_base.specs.Views.{element_in}
+use Rattle.firing_core.specs.Store.{IsPlaceOf, IsSameBesideMemory, came, living, memory_in}
+use Rattle.firing_core.proofs.store.Store.add_to.Goals as goal
+
+-- src/store.rt:141:9
+pub loop-place-init : goal.loop-place-init
+loop-place-init c = ?
+
+-- src/store.rt:141:9
+pub loop-place-preserved : goal.loop-place-preserved
+loop-place-preserved c = ?
+
+-- src/store.rt:138:5
+pub returns : goal.returns
+returns c = ?
