@@ -1,5 +1,5 @@
 -- The state that a core's fields hold: at its base, and after a firing.
-use Rattle.std.proofs.Common.{◌≡◌, ◌+◌, List, [], ◌∷◌, ◌++◌, ◌||◌, Bool, true, false, length, Ok, Some, option_and_then, refl, sym, ◌∙◌, ap, subst, take, suc, zero}
+use Rattle.std.proofs.Common.{◌≡◌, ◌+◌, List, [], ◌∷◌, ◌++◌, ◌||◌, Bool, true, false, length, None, Ok, Some, arith, option_and_then, refl, sym, ◌∙◌, ap, subst, take, suc, zero}
 use Rattle.std.specs.List.{AllByRecursion}
 use Rattle.std.specs.Option.{option_map_or}
 use Rattle.std.proofs.lemmas.List.{map_push}
@@ -17,16 +17,30 @@ use Rattle.rule_base.proofs.MachineLemmas.{IsKeepingStep-sound}
 use Rattle.rule_base.proofs.StepLemmas.{run-append, step-from_parts}
 use Rattle.rule_base.proofs.EachLemmas.{Each-append}
 use Rattle.firing_core.specs.declared.machine.Core.TheInside.{Inside}
-use Rattle.firing_core.specs.CoreFields.{core_in, fired_in, state_in}
+use Rattle.refraction_index.specs.Firings.{Index, Tells}
+use Rattle.firing_core.specs.CoreFields.{IsIndexOf, core_in, fired_in, state_in}
 use Rattle.firing_core.specs.CoreState.{CoreState}
 use Rattle.firing_core.specs.Kept.{IsKept}
 use Rattle.firing_core.specs.Store.{Stored, memory_in}
 use Rattle.firing_core.proofs.CommitLemmas.{same_state}
 
 -- the fields of a core at its base
-pub state_in-start : (core : Inside) → memory_in core.store ≡ core.store.base.elements → core.store.next ≡ core.store.base.next → core.store.entries ≡ [] → core.halted ≡ false → state_in core ≡ start core.store.base
-state_in-start core memory next entries halted =
-    same_state (state_in core) (start core.store.base) memory next (ap (fired_in core.program.value core.store.base) entries) entries halted refl
+state_in-start : (core : Inside) (base : Base) → core.store.base ≡ base → memory_in core.store ≡ base.elements → core.store.next ≡ base.next → core.store.entries ≡ [] → core.halted ≡ false → state_in core ≡ start base
+state_in-start core base base_is memory next entries halted =
+    let fired : (state_in core).fired ≡ base.fired = ap (λ b. fired_in core.program.value b core.store.entries) base_is ∙ ap (fired_in core.program.value base) entries in
+    same_state (state_in core) (start base) memory next fired entries halted (ap (λ (b : Base). b.refraction) base_is)
+
+pub core_in-start : (core : Inside) (base : Base) → core.store.base ≡ base → memory_in core.store ≡ base.elements → core.store.next ≡ base.next → core.store.entries ≡ [] → core.halted ≡ false → core_in core ≡ record { program = core.program.value; base = base; budget = core.budget; state = start base; claims = []; given = 0; fault = None }
+core_in-start core base base_is memory next entries halted =
+    let state = state_in-start core base base_is memory next entries halted in
+    λ i. record { program = core.program.value; base = base_is i; budget = core.budget; state = state i; claims = []; given = 0; fault = None }
+
+-- an index that has taken in nothing
+pub IsIndexOf-start : (base stored : Base) (entries : List Entry) (index : Index) → stored ≡ base → index.seen ≡ 0 → Tells base.fired [] index → IsIndexOf stored.fired entries index
+IsIndexOf-start base stored entries index base_is seen tells = record {
+  within = omega (arith, seen);
+  tells = subst (λ n. Tells stored.fired (take n entries) index) (sym seen) (subst (λ (b : Base). Tells b.fired [] index) (sym base_is) tells);
+}
 
 -- what is fired after one entry more
 pub fired_in-push : (program : Program) (base : Base) (entries : List Entry) (s after : State) (entry : Entry) → run program (start base) (choices_of entries) ≡ Some s → step program s entry.choice ≡ Some after → fired_in program base (entries ++ entry ∷ []) ≡ after.fired

@@ -1,5 +1,5 @@
 -- How the filters of the conflict set go from element to element, and from rule to rule.
-use Rattle.std.proofs.Common.{◌≡◌, ℕ, ◌+◌, ◌<◌, List, ◌∷◌, ◌++◌, length, true, false, Option, Some, None, get_or, take, drop, map, refl, sym, ◌∙◌, ap, append-nil, is_some}
+use Rattle.std.proofs.Common.{◌≡◌, ℕ, ◌+◌, ◌<◌, List, Bool, ◌∷◌, ◌++◌, length, true, false, Option, Some, None, get_or, take, drop, map, refl, sym, ◌∙◌, ap, append-nil, is_some}
 use Rattle.std.specs.List.{flat_map, enumerate_from}
 use Rattle.std.specs.Option.{option_or}
 use Rattle.std.proofs.lemmas.List.Folds.{find-append}

@@ -1,0 +1,34 @@
+-- Each rule may be matched; the rule at hand has the first unfired choice, or the rules after it do.
+use Rattle.std.proofs.Common.{◌≡◌, rules, map, sym, ap, ◌∙◌, arith}
+use Rattle.rule_base.specs.ConflictSet.{instantiations}
+use Rattle.rule_base.specs.Sound.{IsSoundRule, sizes_of}
+use Rattle.refraction_index.specs.Numbers.{choice_with}
+use Rattle.firing_core.specs.Unfired.{first_unfired, is_fired_by}
+use Rattle.firing_core.proofs.MatchingLemmas.{Each-place, MayMatch-sound}
+use Rattle.firing_core.proofs.FilterLemmas.{first_unfired-here, first_unfired-later}
+use Rattle.firing_core.proofs.instantiations.first_unfired.Goals as goal
+
+pub lists_of-requires : goal.lists_of-requires
+lists_of-requires c =
+    let sizes = sizes_of c.args.program.now.classes in
+    MayMatch-sound sizes c.rule-item.result c.args.memory.now (Each-place (IsSoundRule sizes) c.args.program.now.rules c.loop-rule.rule-index c.rule-item.result c.requires.sound.sound_rules (search rules) (search rules)) c.requires.memory
+
+pub returns-then-is_some-clause-found : goal.returns-then-is_some-clause-found
+returns-then-is_some-clause-found c =
+    let fired = is_fired_by c.args.program.now c.args.store.now.base c.args.memory.now c.args.store.now.entries in
+    let lists_are = c.as_slice.ensures.value ∙ c.in_ok-lists.ensures in
+    let found : c.in_ok-found.found ≡ first_unfired fired (instantiations c.args.memory.now (c.loop-rule.number, c.rule-item.result)) =
+        c.in_ok-found.ensures.found ∙ ap (λ lists. first_unfired fired (map (choice_with c.loop-rule.number) lists)) lists_are in
+    sym (c.loop-rule.invariant.same ∙ first_unfired-here fired c.args.memory.now c.loop-rule.number c.args.program.now.rules c.loop-rule.rule-index c.rule-item.result c.in_ok-found.found (search rules) (search rules) found (sym c.if-is_some.ensures))
+
+pub loop-rule-preserved : goal.loop-rule-preserved
+loop-rule-preserved c =
+    let fired = is_fired_by c.args.program.now c.args.store.now.base c.args.memory.now c.args.store.now.entries in
+    let lists_are = c.as_slice.ensures.value ∙ c.in_ok-lists.ensures in
+    let found : c.in_ok-found.found ≡ first_unfired fired (instantiations c.args.memory.now (c.loop-rule.number, c.rule-item.result)) =
+        c.in_ok-found.ensures.found ∙ ap (λ lists. first_unfired fired (map (choice_with c.loop-rule.number) lists)) lists_are in
+    record {
+      kept = c.first_unfired_of.ensures.kept ∙ c.loop-rule.invariant.kept;
+      same = c.loop-rule.invariant.same ∙ first_unfired-later fired c.args.memory.now c.loop-rule.number c.args.program.now.rules c.loop-rule.rule-index c.rule-item.result c.in_ok-found.found (search rules) (search rules) found (sym c.if-is_some.ensures);
+      numbered = omega (arith, c.loop-rule.invariant.numbered);
+    }
