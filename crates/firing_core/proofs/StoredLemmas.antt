@@ -4,15 +4,18 @@ use Rattle.std.specs.List.{AllByRecursion, filter, filter_map, range_with_len}
 use Rattle.std.proofs.Math.Seq.{take-suc}
 use Rattle.std.proofs.lemmas.Grind.{flat_map-append}
 use Rattle.std.proofs.lemmas.List.Elements.{filter-append}
-use Rattle.std.proofs.lemmas.List.FromFn.{length-range_with_len}
 use Rattle.rule_base.specs.declared.base.Base.{Base}
 use Rattle.rule_base.specs.declared.element.Element.{Element}
 use Rattle.rule_base.specs.declared.entry.Entry.{Entry}
 use Rattle.rule_base.specs.Memory.{Memory, Rises, element_at, tags_of}
 use Rattle.rule_base.specs.Opening.{AreConsecutive}
-use Rattle.rule_base.specs.Step.{without}
-use Rattle.rule_base.proofs.EachLemmas.{Each-filter}
-use Rattle.commit_journal.specs.Entries.{born_in}
+use Rattle.rule_base.specs.declared.instantiation.Choice.{Choice}
+use Rattle.rule_base.specs.Effect.{Effect}
+use Rattle.rule_base.specs.Step.{born, entry_of, without}
+use Rattle.rule_base.proofs.EachLemmas.{Each-append, Each-filter, Each-weaker}
+use Rattle.commit_journal.specs.Entries.{born_by, born_in}
+use Rattle.commit_journal.proofs.CommitLemmas.{consecutive}
+use Rattle.refraction_index.proofs.StillFiredLemmas.{born_in-entry}
 use Rattle.working_memory.specs.Memory.{Places, has_place}
 use Rattle.working_memory.proofs.PlaceLemmas.{below-range}
 use Rattle.firing_core.specs.Store.{IsPlaceOf, IsSameBesideMemory, IsStored, Stored, at_places, came, living, memory_in}
@@ -132,3 +135,56 @@ memory-new base entries count places none count_is places_are =
     ∙ ap (λ es. at_places es places) (append-nil base.elements)
     ∙ ap (at_places base.elements) (places_are ∙ ap (range_with_len 0) count_is)
     ∙ at_places-new [] base.elements
+
+-- after a commit, of which we know the parts
+consecutive_append : (first : ℕ) (xs ys : List Element) → AreConsecutive first (tags_of xs) → AreConsecutive (first + length xs) (tags_of ys) → AreConsecutive first (tags_of (xs ++ ys))
+consecutive_append first [] ys of_xs of_ys =
+    let same : first + 0 ≡ first = omega arith in
+    subst (λ n. AreConsecutive n (tags_of ys)) same of_ys
+consecutive_append first (x ∷ xs) ys of_xs of_ys =
+    let same : first + suc (length xs) ≡ first + 1 + length xs = omega arith in
+    (of_xs.0, consecutive_append (first + 1) xs ys of_xs.1 (subst (λ n. AreConsecutive n (tags_of ys)) same of_ys))
+
+pub record IsCommit (next count : ℕ) (c : Choice) (done : Effect) (entries new_entries : List Entry) (old new : Places) : Type 0 where
+  pub counted : count ≡ length (born next done.changes)
+  pub entries' : new_entries ≡ entries ++ entry_of next c done ∷ []
+  pub places : new.places ≡ old.places ++ range_with_len old.came count
+  pub came : new.came ≡ old.came + count
+
+born_in-commit : (next count : ℕ) (c : Choice) (done : Effect) (entries new_entries : List Entry) (old new : Places) → IsCommit next count c done entries new_entries old new → born_in new_entries ≡ born_in entries ++ born next done.changes
+born_in-commit next count c done entries new_entries old new is =
+    ap born_in is.entries'
+    ∙ flat_map-append (λ (e : Entry). filter_map born_by e.changes) entries (entry_of next c done ∷ [])
+    ∙ ap (λ es. born_in entries ++ es) (born_in-entry next c done)
+
+pub IsStored-commit : (base : Base) (next new_next count : ℕ) (c : Choice) (done : Effect) (entries new_entries : List Entry) (old new : Places) → IsStored base entries next old → IsCommit next count c done entries new_entries old new → new_next ≡ next + length (born next done.changes) → IsStored base new_entries new_next new
+IsStored-commit base next new_next count c done entries new_entries old new stored is next_is' =
+    let made = born next done.changes in
+    let range = range_with_len old.came count in
+    let born_is = born_in-commit next count c done entries new_entries old new is in
+    let longer : length (born_in new_entries) ≡ length (born_in entries) + length made = ap length born_is ∙ length-append (born_in entries) made in
+    let old_below : AllByRecursion (λ p. p < new.came) old.places = Each-weaker (λ p. p < old.came) (λ p. p < new.came) (λ p lt. omega (arith, lt, is.came)) old.places stored.below in
+    let below' : AllByRecursion (λ p. p < new.came) (old.places ++ range) = Each-append (λ p. p < new.came) old.places range old_below (below-range new.came old.came count (omega (arith, is.came))) in
+    let of_made : AreConsecutive (base.next + length (born_in entries)) (tags_of made) = subst (λ n. AreConsecutive n (tags_of made)) stored.next_is (consecutive next done.changes) in
+    record {
+      counted = omega (arith, is.came, is.counted, stored.counted, longer);
+      below = subst (λ places. AllByRecursion (λ p. p < new.came) places) (sym is.places) below';
+      rising = stored.rising;
+      given = stored.given;
+      born = subst (λ es. AreConsecutive base.next (tags_of es)) (sym born_is) (consecutive_append base.next (born_in entries) made stored.born of_made);
+      next_is = omega (arith, next_is', stored.next_is, longer);
+    }
+
+pub memory-commit : (base : Base) (next count : ℕ) (c : Choice) (done : Effect) (entries new_entries : List Entry) (old new : Places) → IsStored base entries next old → IsCommit next count c done entries new_entries old new → at_places (came base new_entries) new.places ≡ at_places (came base entries) old.places ++ born next done.changes
+memory-commit base next count c done entries new_entries old new stored is =
+    let made = born next done.changes in
+    let all = came base entries in
+    let range = range_with_len (length all) (length made) in
+    let all_is : came base new_entries ≡ all ++ made = ap (λ es. base.elements ++ es) (born_in-commit next count c done entries new_entries old new is) ∙ sym (append_assoc base.elements (born_in entries) made) in
+    let counted : old.came ≡ length all = stored.counted ∙ sym (length-append base.elements (born_in entries)) in
+    let places_are : new.places ≡ old.places ++ range = is.places ∙ ap (λ n. old.places ++ range_with_len n count) counted ∙ ap (λ n. old.places ++ range_with_len (length all) n) is.counted in
+    ap (λ es. at_places es new.places) all_is
+    ∙ ap (at_places (all ++ made)) places_are
+    ∙ at_places-append (all ++ made) old.places range
+    ∙ ap (λ es. es ++ at_places (all ++ made) range) (at_places-more all made old.places (below-came base entries next old stored))
+    ∙ ap (λ es. at_places all old.places ++ es) (at_places-new all made)
