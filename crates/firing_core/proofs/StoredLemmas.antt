@@ -1,5 +1,5 @@
 -- A store's parts: what follows of them, and what each change leaves of it.
-use Rattle.std.proofs.Common.{◌≡◌, ℕ, ◌+◌, ◌*◌, ◌<◌, ◌≤◌, List, [], ◌∷◌, ◌++◌, Bool, true, false, not, cond, ◌==◌, Option, None, Some, length, map, slice_get, slice_index_or, take, suc, zero, refl, ap, ◌∙◌, subst, sym, append-nil, append_assoc, arith, length-append}
+use Rattle.std.proofs.Common.{◌≡◌, ℕ, ◌+◌, ◌<◌, List, [], ◌∷◌, ◌++◌, Bool, not, cond, ◌==◌, None, Some, length, slice_get, slice_index_or, take, suc, zero, refl, ap, ◌∙◌, subst, sym, append-nil, append_assoc, arith, length-append}
 use Rattle.std.specs.List.{AllByRecursion, filter, filter_map, range_with_len}
 use Rattle.std.proofs.Math.Seq.{take-suc}
 use Rattle.std.proofs.lemmas.Grind.{flat_map-append}
@@ -113,8 +113,8 @@ living_next s before now slots i lt so_far =
     ap (λ es. es ++ living s slot) so_far
     ∙ append_assoc before (at_places all (filter has (take i slots))) (living s slot)
     ∙ ap (λ es. before ++ es) (sym (at_places-append all (filter has (take i slots)) (filter has (slot ∷ [])))
-      ∙ ap (at_places all) (sym (filter-append has (take i slots) (slot ∷ [])) ∙ ap (filter has) (sym (take-suc slots i 0 lt)))
-      ∙ ap (λ n. at_places all (filter has (take n slots))) next)
+    ∙ ap (at_places all) (sym (filter-append has (take i slots) (slot ∷ [])) ∙ ap (filter has) (sym (take-suc slots i 0 lt)))
+    ∙ ap (λ n. at_places all (filter has (take n slots))) next)
 
 -- at the beginning, with the places of the base's elements
 pub IsStored-new : (base : Base) (entries : List Entry) (next count : ℕ) (memory : Places) → Rises (tags_of base.elements) → AllByRecursion (λ (e : Element). e.tag < base.next) base.elements → entries ≡ [] → next ≡ base.next → count ≡ length base.elements → memory.places ≡ range_with_len 0 count → memory.came ≡ count → IsStored base entries next memory
@@ -136,7 +136,7 @@ memory-new base entries count places none count_is places_are =
     ∙ ap (at_places base.elements) (places_are ∙ ap (range_with_len 0) count_is)
     ∙ at_places-new [] base.elements
 
--- after a commit, of which we know the parts
+-- consecutive tags, and behind them those that go on from there
 consecutive_append : (first : ℕ) (xs ys : List Element) → AreConsecutive first (tags_of xs) → AreConsecutive (first + length xs) (tags_of ys) → AreConsecutive first (tags_of (xs ++ ys))
 consecutive_append first [] ys of_xs of_ys =
     let same : first + 0 ≡ first = omega arith in
@@ -145,6 +145,7 @@ consecutive_append first (x ∷ xs) ys of_xs of_ys =
     let same : first + suc (length xs) ≡ first + 1 + length xs = omega arith in
     (of_xs.0, consecutive_append (first + 1) xs ys of_xs.1 (subst (λ n. AreConsecutive n (tags_of ys)) same of_ys))
 
+-- a commit: so many elements come, and the entry tells them
 pub record IsCommit (next count : ℕ) (c : Choice) (done : Effect) (entries new_entries : List Entry) (old new : Places) : Type 0 where
   pub counted : count ≡ length (born next done.changes)
   pub entries' : new_entries ≡ entries ++ entry_of next c done ∷ []
@@ -157,6 +158,7 @@ born_in-commit next count c done entries new_entries old new is =
     ∙ flat_map-append (λ (e : Entry). filter_map born_by e.changes) entries (entry_of next c done ∷ [])
     ∙ ap (λ es. born_in entries ++ es) (born_in-entry next c done)
 
+-- leaves the parts of a store, and adds those elements to the working memory
 pub IsStored-commit : (base : Base) (next new_next count : ℕ) (c : Choice) (done : Effect) (entries new_entries : List Entry) (old new : Places) → IsStored base entries next old → IsCommit next count c done entries new_entries old new → new_next ≡ next + length (born next done.changes) → IsStored base new_entries new_next new
 IsStored-commit base next new_next count c done entries new_entries old new stored is next_is' =
     let made = born next done.changes in

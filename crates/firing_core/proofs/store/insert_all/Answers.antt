@@ -1,5 +1,5 @@
 -- One place more.
-use Rattle.std.proofs.Common.{◌≡◌, ◌+◌, ◌++◌, append-nil, arith, sym, ap, ◌∙◌}
+use Rattle.std.proofs.Common.{◌≡◌, ◌++◌, append-nil, arith, sym, ap, ◌∙◌}
 use Rattle.std.specs.List.{range_with_len}
 use Rattle.firing_core.proofs.StoredLemmas.{places_next}
 use Rattle.firing_core.proofs.store.insert_all.Goals as goal

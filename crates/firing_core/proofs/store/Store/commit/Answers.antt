@@ -1,5 +1,5 @@
 -- What goes, goes with its place, and what comes has the next places.
-use Rattle.std.proofs.Common.{◌≡◌, ◌+◌, ◌*◌, ◌++◌, ap, ◌∙◌, arith, length, sym}
+use Rattle.std.proofs.Common.{◌≡◌, ◌++◌, ap, ◌∙◌, arith, length, sym}
 use Rattle.rule_base.specs.declared.instantiation.Choice.{Choice}
 use Rattle.rule_base.specs.Effect.{removed_tags}
 use Rattle.rule_base.specs.Step.{born, without}

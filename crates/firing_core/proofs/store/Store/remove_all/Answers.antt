@@ -1,5 +1,5 @@
 -- One tag more.
-use Rattle.std.proofs.Common.{◌≡◌, ◌+◌, ap, ◌∙◌, arith, length, refl}
+use Rattle.std.proofs.Common.{ap, ◌∙◌, arith, refl}
 use Rattle.std.proofs.lemmas.List.{take_all}
 use Rattle.rule_base.specs.Step.{without}
 use Rattle.firing_core.specs.Store.{memory_in}
