@@ -21,6 +21,12 @@ born-append next (Make class values ∷ xs) ys =
     let same : next + 1 + length rest ≡ next + length (e ∷ rest) = omega arith in
     ap (λ es. e ∷ es) (born-append (next + 1) xs ys) ∙ ap (λ n. (e ∷ rest) ++ born n ys) same
 
+-- each change removes a tag or makes an element
+pub length-changes : (next : ℕ) (changes : List Change) → length (removed_tags changes) + length (born next changes) ≡ length changes
+length-changes next [] = refl
+length-changes next (Remove tag ∷ changes) = omega (arith, length-changes next changes)
+length-changes next (Make class values ∷ changes) = omega (arith, length-changes (next + 1) changes)
+
 take_drop : {X : Type 0} (n : ℕ) (xs : List X) → take n xs ++ drop n xs ≡ xs
 take_drop zero xs = refl
 take_drop (suc n) [] = refl

@@ -1,6 +1,6 @@
 -- What came, and the working memory at some of its places.
-use Rattle.std.proofs.Common.{◌≡◌, ℕ, ◌+◌, ◌<◌, ◌≤◌, List, [], ◌∷◌, ◌++◌, Bool, true, false, not, cond, ◌||◌, ◌==◌, Option, None, Some, drop, eqb, length, slice_get, suc, take, zero, refl, ap, ◌∙◌, subst, sym, append-nil, append_assoc, arith, rules, tests, length-append}
-use Rattle.std.specs.List.{AllByRecursion, filter, filter_map, list_any, range_with_len}
+use Rattle.std.proofs.Common.{◌≡◌, ℕ, ◌+◌, ◌<◌, ◌≤◌, List, [], ◌∷◌, ◌++◌, Bool, true, false, not, cond, ◌||◌, ◌==◌, Option, None, Some, eqb, length, slice_get, suc, zero, refl, ap, ◌∙◌, subst, sym, append_assoc, arith, rules, tests, length-append}
+use Rattle.std.specs.List.{AllByRecursion, filter, list_any, range_with_len}
 use Rattle.std.proofs.lemmas.Bool.{eqb-true}
 use Rattle.rule_base.specs.declared.element.Element.{Element}
 use Rattle.rule_base.specs.Memory.{Memory, Rises, RisesFrom, element_at, tags_of}
@@ -72,7 +72,7 @@ at_places-new elements (e ∷ more) =
     let joined : (elements ++ e ∷ []) ++ more ≡ all = append_assoc elements (e ∷ []) more in
     let longer : length (elements ++ e ∷ []) ≡ length elements + 1 = length-append elements (e ∷ []) in
     let rest : at_places all (range_with_len (length elements + 1) (length more)) ≡ more =
-        subst (λ es. at_places es (range_with_len (length elements + 1) (length more)) ≡ more) joined (subst (λ n. at_places ((elements ++ e ∷ []) ++ more) (range_with_len n (length more)) ≡ more) longer (at_places-new (elements ++ e ∷ []) more)) in
+    subst (λ es. at_places es (range_with_len (length elements + 1) (length more)) ≡ more) joined (subst (λ n. at_places ((elements ++ e ∷ []) ++ more) (range_with_len n (length more)) ≡ more) longer (at_places-new (elements ++ e ∷ []) more)) in
     at_places-cons all (length elements) (range_with_len (length elements + 1) (length more)) ∙ ap (λ o. place_step o (at_places all (range_with_len (length elements + 1) (length more)))) (get_behind elements e more) ∙ ap (λ es. e ∷ es) rest
 
 -- an element for each place
@@ -84,6 +84,7 @@ length-at_places elements (p ∷ places) below = ap length (at_places-cons eleme
     some [] n lt is = omega (arith, lt)
     some (x ∷ xs) zero lt is = let wrong : ⊥ = cc in wrong
     some (x ∷ xs) (suc n) lt is = some xs n (omega (arith, lt)) is
+
     one : (o : Option Element) → slice_get elements p ≡ o → length (place_step o (at_places elements places)) ≡ suc (length (at_places elements places))
     one None is = absurd (some elements p below.0 is)
     one (Some e) is = refl

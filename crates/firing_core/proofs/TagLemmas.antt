@@ -1,5 +1,5 @@
 -- Elements whose tags rise, and where the one with a tag lies.
-use Rattle.std.proofs.Common.{◌≡◌, ℕ, ◌+◌, ◌<◌, ◌≤◌, List, [], ◌∷◌, ◌++◌, Bool, true, false, cond, Option, None, Some, drop, eqb, slice_get, suc, take, zero, refl, ap, ◌∙◌, subst, sym, arith, rules, tests}
+use Rattle.std.proofs.Common.{◌≡◌, ℕ, ◌+◌, ◌<◌, ◌≤◌, List, [], ◌∷◌, ◌++◌, Bool, true, false, cond, Option, None, Some, drop, eqb, slice_get, suc, take, zero, refl, ap, subst, sym, arith, rules, tests}
 use Rattle.rule_base.specs.declared.element.Element.{Element}
 use Rattle.rule_base.specs.Memory.{Rises, RisesFrom, element_at, tags_of}
 use Rattle.rule_base.proofs.MemoryLemmas.{Rises-from_above}

@@ -128,7 +128,8 @@ impl Store {
         let came = self.memory.came();
         if place < came {
             // What came last has the tag before the next one.
-            self.journal.born(self.journal.next() - (came - place) as u64)
+            let behind = (came - place) as u64;
+            self.journal.born(self.journal.next() - behind)
         } else {
             None
         }

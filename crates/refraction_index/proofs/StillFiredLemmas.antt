@@ -50,7 +50,7 @@ born_by-entry [] [] = refl
 born_by-entry [] (e ∷ new) = ap (λ rest. e ∷ rest) (born_by-entry [] new)
 born_by-entry (tag ∷ gone) new = born_by-entry gone new
 
-born_in-entry : (next : ℕ) (d : Choice) (done : Effect) → born_in (entry_of next d done ∷ []) ≡ born next done.changes
+pub born_in-entry : (next : ℕ) (d : Choice) (done : Effect) → born_in (entry_of next d done ∷ []) ≡ born next done.changes
 born_in-entry next d done = append-nil (filter_map born_by (entry_of next d done).changes) ∙ born_by-entry (removed_tags done.changes) (born next done.changes)
 
 -- those that were born since a firing, once one more has fired, and since that one

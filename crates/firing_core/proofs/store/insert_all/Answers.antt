@@ -1,38 +1,43 @@
-use Rattle.std.proofs.Common.{rules, ◌≡◌, ◌+◌, ◌*◌, ◌<◌, ◌≤◌, [], ◌∷◌, ◌++◌, IfOk, OnOk, length, option_map, slice_get, ℕ, ◌-◌, ◌/◌, ◌%◌, Bool, true, false, nat_eq, nat_lt, List, slice_index_or, slice_set, bit_and, bit_or, Fits, w8, w32, w64, Bor, MutBor}
-use Rattle.std.specs.List.{AllByRecursion, range_with_len}
-use Rattle.commit_journal.specs.Room.{FitsIn, room_for, room_without}
-use Rattle.rule_base.specs.declared.element.Element.{Element}
-use Rattle.rule_base.specs.Effect.{removed_tags}
-use Rattle.rule_base.specs.Memory.{Rises, element_at, tags_of}
-use Rattle.rule_base.specs.Step.{born, entry_of, without}
-use Rattle.rule_base.specs.Views.{element_in}
-use Rattle.firing_core.specs.Store.{IsPlaceOf, IsSameBesideMemory, came, living, memory_in}
+-- One place more.
+use Rattle.std.proofs.Common.{◌≡◌, ◌++◌, append-nil, arith, sym, ap, ◌∙◌}
+use Rattle.std.specs.List.{range_with_len}
+use Rattle.firing_core.proofs.StoredLemmas.{places_next}
 use Rattle.firing_core.proofs.store.insert_all.Goals as goal
 
--- src/store.rt:229:5
 pub loop-init : goal.loop-init
-loop-init g c = ?
+loop-init g c = record {
+  places = sym (append-nil c.args.memory.now.places);
+  came = omega arith;
+  spare = omega arith;
+  steps = omega arith;
+}
 
--- src/store.rt:230:9
 pub insert-requires : goal.insert-requires
-insert-requires g c = ?
+insert-requires g c = omega (arith, c.requires, c.loop.invariant.spare, c.loop-test.true)
 
--- src/store.rt:229:5
 pub loop-preserved : goal.loop-preserved
-loop-preserved g c = ?
+loop-preserved g c =
+    let start = c.args.memory.now in
+    let so_far = c.loop.invariant in
+    let one = c.insert.ensures in
+    record {
+      places = one.places ∙ places_next start.places c.loop.memory.places start.came c.loop.memory.came c.loop.counter so_far.places so_far.came;
+      came = omega (arith, one.came, so_far.came);
+      spare = omega (arith, one.spare, so_far.spare);
+      steps = omega (arith, one.steps, so_far.steps);
+    }
 
--- src/store.rt:222:1
 pub returns-clause-places : goal.returns-clause-places
-returns-clause-places g c = ?
+returns-clause-places g c =
+    let start = c.args.memory.now in
+    let all : c.loop.counter ≡ c.args.count = omega (arith, c.loop-test.false, c.loop.auto.counter-end) in
+    c.loop.invariant.places ∙ ap (λ n. start.places ++ range_with_len start.came n) all
 
--- src/store.rt:222:1
 pub returns-clause-came : goal.returns-clause-came
-returns-clause-came g c = ?
+returns-clause-came g c = omega (arith, c.loop-test.false, c.loop.auto.counter-end, c.loop.invariant.came)
 
--- src/store.rt:222:1
 pub returns-clause-spare : goal.returns-clause-spare
-returns-clause-spare g c = ?
+returns-clause-spare g c = omega (arith, c.loop-test.false, c.loop.auto.counter-end, c.loop.invariant.spare)
 
--- src/store.rt:222:1
 pub returns-clause-steps : goal.returns-clause-steps
-returns-clause-steps g c = ?
+returns-clause-steps g c = omega (arith, c.loop-test.false, c.loop.auto.counter-end, c.loop.invariant.steps)

@@ -1,13 +1,12 @@
-use Rattle.std.proofs.Common.{◌≡◌, ◌+◌, ◌*◌, ◌<◌, ◌≤◌, [], ◌∷◌, ◌++◌, IfOk, OnOk, length, option_map, slice_get, ℕ, ◌-◌}
-use Rattle.std.specs.List.{AllByRecursion, range_with_len}
-use Rattle.commit_journal.specs.Room.{FitsIn, room_for, room_without}
-use Rattle.rule_base.specs.declared.element.Element.{Element}
-use Rattle.rule_base.specs.Effect.{removed_tags}
-use Rattle.rule_base.specs.Memory.{Rises, element_at, tags_of}
-use Rattle.rule_base.specs.Step.{born, entry_of, without}
-use Rattle.rule_base.specs.Views.{element_in}
-use Rattle.firing_core.specs.Store.{IsPlaceOf, IsSameBesideMemory, came, living, memory_in}
+-- So many have been taken in.
+use Rattle.std.proofs.Common.{◌≡◌, ◌+◌, ◌*◌, ◌≤◌, ◌++◌}
+use Rattle.std.specs.List.{range_with_len}
 use Rattle.firing_core.proofs.store.insert_all.Given as goal
 
 abbrev pub invariant-loop : goal.invariant-loop
-invariant-loop g l = ?
+invariant-loop g l = record {
+  places : l.memory.places ≡ l.fn.memory.places ++ range_with_len l.fn.memory.came l.counter;
+  came : l.memory.came ≡ l.fn.memory.came + l.counter;
+  spare : l.fn.memory.spare ≤ l.memory.spare + l.counter;
+  steps : l.steps ≤ l.fn.steps + 2 * l.counter;
+}

@@ -1,5 +1,5 @@
 -- The element in the middle leaves one half of the places.
-use Rattle.std.proofs.Common.{◌≡◌, ◌≢◌, ◌<◌, ◌≤◌, None, length, refl, rules, sym, subst, take, arith}
+use Rattle.std.proofs.Common.{◌≡◌, ◌<◌, None, subst, take, arith}
 use Rattle.std.proofs.lemmas.Bool.Decides.{nat_tests}
 use Rattle.rule_base.specs.Memory.{element_at}
 use Rattle.rule_base.specs.Views.{element_in}

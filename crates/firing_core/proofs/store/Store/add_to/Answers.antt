@@ -1,22 +1,25 @@
-use Rattle.std.proofs.Common.{rules, ◌≡◌, ◌+◌, ◌*◌, ◌<◌, ◌≤◌, [], ◌∷◌, ◌++◌, IfOk, OnOk, length, option_map, slice_get, ℕ, ◌-◌, ◌/◌, ◌%◌, Bool, true, false, nat_eq, nat_lt, List, slice_index_or, slice_set, bit_and, bit_or, Fits, w8, w32, w64, Bor, MutBor}
-use Rattle.std.specs.List.{AllByRecursion, range_with_len}
-use Rattle.commit_journal.specs.Room.{FitsIn, room_for, room_without}
-use Rattle.rule_base.specs.declared.element.Element.{Element}
-use Rattle.rule_base.specs.Effect.{removed_tags}
-use Rattle.rule_base.specs.Memory.{Rises, element_at, tags_of}
-use Rattle.rule_base.specs.Step.{born, entry_of, without}
-use Rattle.rule_base.specs.Views.{element_in}
-use Rattle.firing_core.specs.Store.{IsPlaceOf, IsSameBesideMemory, came, living, memory_in}
+-- One slot more.
+use Rattle.std.proofs.Common.{◌≡◌, ◌++◌, append-nil, ap, ◌∙◌, subst, sym}
+use Rattle.std.specs.List.{filter}
+use Rattle.std.proofs.lemmas.List.{take_all}
+use Rattle.working_memory.specs.Memory.{has_place}
+use Rattle.firing_core.specs.Store.{Stored, at_places, came}
+use Rattle.firing_core.proofs.StoredLemmas.{living_next}
 use Rattle.firing_core.proofs.store.Store.add_to.Goals as goal
 
--- src/store.rt:141:9
 pub loop-place-init : goal.loop-place-init
-loop-place-init c = ?
+loop-place-init c = sym (append-nil c.args.elements.now)
 
--- src/store.rt:141:9
 pub loop-place-preserved : goal.loop-place-preserved
-loop-place-preserved c = ?
+loop-place-preserved c =
+    c.in_ok-add_living.ensures
+    ∙ living_next c.args.self.now c.args.elements.now c.loop-place.elements c.slots-place-items.result.now c.loop-place.place-index c.loop-place-test.true c.loop-place.invariant
 
--- src/store.rt:138:5
 pub returns : goal.returns
-returns c = ?
+returns c =
+    let s = c.args.self.now in
+    let slots = c.slots-place-items.result.now in
+    let left : filter (has_place s.places) slots ≡ s.places = subst (λ (s : Stored). filter (has_place s.places) slots ≡ s.places) c.self.view_is c.slots-place-items.ensures in
+    c.loop-place.invariant
+    ∙ ap (λ ps. c.args.elements.now ++ at_places (came s.base s.entries) (filter (has_place s.places) ps)) (take_all c.loop-place.place-index slots c.loop-place-test.false)
+    ∙ ap (λ ps. c.args.elements.now ++ at_places (came s.base s.entries) ps) left

@@ -1,13 +1,9 @@
-use Rattle.std.proofs.Common.{◌≡◌, ◌+◌, ◌*◌, ◌<◌, ◌≤◌, [], ◌∷◌, ◌++◌, IfOk, OnOk, length, option_map, slice_get, ℕ, ◌-◌}
-use Rattle.std.specs.List.{AllByRecursion, range_with_len}
-use Rattle.commit_journal.specs.Room.{FitsIn, room_for, room_without}
-use Rattle.rule_base.specs.declared.element.Element.{Element}
-use Rattle.rule_base.specs.Effect.{removed_tags}
-use Rattle.rule_base.specs.Memory.{Rises, element_at, tags_of}
-use Rattle.rule_base.specs.Step.{born, entry_of, without}
-use Rattle.rule_base.specs.Views.{element_in}
-use Rattle.firing_core.specs.Store.{IsPlaceOf, IsSameBesideMemory, came, living, memory_in}
+-- The elements at the slots so far have been added.
+use Rattle.std.proofs.Common.{◌≡◌, ◌++◌, take}
+use Rattle.std.specs.List.{filter}
+use Rattle.working_memory.specs.Memory.{has_place}
+use Rattle.firing_core.specs.Store.{at_places, came}
 use Rattle.firing_core.proofs.store.Store.add_to.Given as goal
 
 abbrev pub invariant-loop-place : goal.invariant-loop-place
-invariant-loop-place l = ?
+invariant-loop-place l = l.elements ≡ l.fn.elements ++ at_places (came l.self.base l.self.entries) (filter (has_place l.self.places) (take l.place-index l.place-items))

@@ -1,5 +1,5 @@
 -- What lies before the end of the base is of the base, and what lies behind it was born at that distance.
-use Rattle.std.proofs.Common.{◌≡◌, ◌+◌, ◌-◌, ◌<◌, ◌≤◌, None, Some, length, slice_get, option_map, ◌∙◌, ap, subst, sym, arith, rules}
+use Rattle.std.proofs.Common.{◌≡◌, ◌+◌, ◌-◌, ◌<◌, ◌≤◌, None, Some, length, slice_get, option_map, ◌∙◌, ap, subst, sym, arith}
 use Rattle.std.proofs.lemmas.Bool.Decides.{nat_tests}
 use Rattle.commit_journal.specs.Entries.{born_in}
 use Rattle.rule_base.specs.Memory.{element_at}

@@ -1,5 +1,5 @@
 -- An element is in working memory where its place is.
-use Rattle.std.proofs.Common.{◌≡◌, None, cond, slice_get, ap, ◌∙◌, subst, sym}
+use Rattle.std.proofs.Common.{None, cond, slice_get, ap, ◌∙◌, subst, sym}
 use Rattle.rule_base.specs.Memory.{Rises, tags_of}
 use Rattle.working_memory.specs.Memory.{has_place}
 use Rattle.firing_core.specs.Store.{Stored, came}
@@ -22,9 +22,9 @@ returns-in_default c =
     let inside = c.self.inside in
     let rises = subst (λ (s : Stored). Rises (tags_of (came s.base s.entries))) c.self.view_is (Rises-stored inside.base inside.journal.entries inside.journal.next inside.memory c.self.invariant) in
     elim c.in_default.branch [
-      in_default-via-in-Some+else-has w ↦
-        let told = w.has.ensures ∙ ap (λ (s : Stored). has_place s.places w.in-Some.place) c.self.view_is in
-        let found = found_in s c.args.tag w.in-Some.place w.has.result rises w.in-Some.ensures told in
-        sym (found ∙ ap (λ b. cond b (slice_get (came s.base s.entries) w.in-Some.place) None) w.if-has.false)
-    | in_default-via-in_default w ↦ sym (absent_in s c.args.tag w.in_default.ensures)
+      | in_default-via-in-Some+else-has w ↦
+          let told = w.has.ensures ∙ ap (λ (s : Stored). has_place s.places w.in-Some.place) c.self.view_is in
+          let found = found_in s c.args.tag w.in-Some.place w.has.result rises w.in-Some.ensures told in
+          sym (found ∙ ap (λ b. cond b (slice_get (came s.base s.entries) w.in-Some.place) None) w.if-has.false)
+      | in_default-via-in_default w ↦ sym (absent_in s c.args.tag w.in_default.ensures)
     ]

@@ -1,18 +1,12 @@
-use Rattle.std.proofs.Common.{rules, ◌≡◌, ◌+◌, ◌*◌, ◌<◌, ◌≤◌, [], ◌∷◌, ◌++◌, IfOk, OnOk, length, option_map, slice_get, ℕ, ◌-◌, ◌/◌, ◌%◌, Bool, true, false, nat_eq, nat_lt, List, slice_index_or, slice_set, bit_and, bit_or, Fits, w8, w32, w64, Bor, MutBor}
-use Rattle.std.specs.List.{AllByRecursion, range_with_len}
-use Rattle.commit_journal.specs.Room.{FitsIn, room_for, room_without}
-use Rattle.rule_base.specs.declared.element.Element.{Element}
-use Rattle.rule_base.specs.Effect.{removed_tags}
-use Rattle.rule_base.specs.Memory.{Rises, element_at, tags_of}
-use Rattle.rule_base.specs.Step.{born, entry_of, without}
-use Rattle.rule_base.specs.Views.{element_in}
-use Rattle.firing_core.specs.Store.{IsPlaceOf, IsSameBesideMemory, came, living, memory_in}
+-- Each element of the base has its place there.
+use Rattle.firing_core.proofs.StoredLemmas.{IsStored-new, memory-new}
 use Rattle.firing_core.proofs.store.Store.new.Goals as goal
 
--- src/store.rt:55:9
 pub invariant_of-result : goal.invariant_of-result
-invariant_of-result c = ?
+invariant_of-result c =
+    let journal = c.new-journal in
+    let memory = c.in_ok-memory in
+    IsStored-new c.args.base journal.result.entries journal.result.next c.len.result memory.memory c.requires.rising c.requires.given journal.ensures.entries journal.ensures.next c.len.ensures.value memory.ensures.places memory.ensures.came
 
--- src/store.rt:45:5
 pub returns-clause-memory : goal.returns-clause-memory
-returns-clause-memory c = ?
+returns-clause-memory c = memory-new c.args.base c.new-journal.result.entries c.len.result c.in_ok-memory.memory.places c.new-journal.ensures.entries c.len.ensures.value c.in_ok-memory.ensures.places

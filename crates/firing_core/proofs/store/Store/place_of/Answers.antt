@@ -1,5 +1,5 @@
 -- What has a tag below the base's next is of the base, and what was born lies at the distance of its tag from that.
-use Rattle.std.proofs.Common.{◌≡◌, ◌+◌, ◌-◌, ◌<◌, ◌≤◌, None, Some, length, ◌∙◌, subst, sym, arith, rules}
+use Rattle.std.proofs.Common.{◌≡◌, ◌+◌, ◌-◌, ◌<◌, ◌≤◌, None, Some, length, ◌∙◌, subst, sym, arith}
 use Rattle.std.proofs.lemmas.Bool.Decides.{nat_tests}
 use Rattle.commit_journal.specs.Entries.{born_in}
 use Rattle.firing_core.specs.Store.{IsPlaceOf, Stored, came}
