@@ -14,6 +14,7 @@ pub mod LawfulLemmas
 pub mod ChangeLemmas
 pub mod CommitLemmas
 pub mod FieldLemmas
+pub mod FireLemmas
 -- events
 pub mod PairLemmas
 pub mod FittingLemmas

@@ -1,14 +1,20 @@
-use Rattle.std.proofs.Common.{rules, ◌≡◌, ◌+◌, ◌*◌, ◌<◌, ◌≤◌, ◌↔◌, [], true, None, Ok, Some, IfErr, IfOk, IsTrue, OnOk, OnErr, length, ℕ, ◌-◌, ◌/◌, ◌%◌, Bool, false, nat_eq, nat_lt, List, ◌∷◌, ◌++◌, slice_index_or, slice_set, bit_and, bit_or, Fits, w8, w32, w64, Bor, MutBor}
-use Rattle.rule_base.specs.Sound.{IsSound}
-use Rattle.rule_base.specs.State.{count, start}
-use Rattle.rule_base.specs.Step.{effect_of, may_fire, matches}
-use Rattle.rule_base.specs.Base.{IsLawfulBase}
-use Rattle.rule_base.specs.Ending.{IsBudget}
-use Rattle.firing_core.specs.CoreState.{IsRunOf}
-use Rattle.firing_core.specs.Lawful.{IsLawful}
-use Rattle.firing_core.specs.Firing.{IsNext, Fires, TellsFault}
+-- The filters' answer over the fields is the answer over the core that they hold.
+use Rattle.std.proofs.Common.{◌≡◌, ◌++◌, Option, rules, subst, sym, ap, ◌∙◌}
+use Rattle.std.proofs.lemmas.Result.{IfOk-weaker}
+use Rattle.rule_base.specs.declared.instantiation.Choice.{Choice}
+use Rattle.rule_base.specs.ConflictSet.{conflict_set}
+use Rattle.rule_base.specs.Memory.{Memory}
+use Rattle.firing_core.specs.CoreState.{CoreState}
+use Rattle.firing_core.specs.Firing.{IsNext}
+use Rattle.firing_core.specs.Store.{memory_in}
+use Rattle.firing_core.specs.Unfired.{first_unfired, is_fired_by}
+use Rattle.firing_core.proofs.UnfiredLemmas.{first_unfired_is}
 use Rattle.firing_core.proofs.machine.Core.find_unfired.Goals as goal
 
--- src/machine.rt:151:5
 pub returns-clause-found : goal.returns-clause-found
-returns-clause-found c = ?
+returns-clause-found c =
+    let core = c.self.inside in
+    let found_is : Memory → Option Choice → Type 0 = λ memory found. found ≡ first_unfired (is_fired_by core.program.value core.store.base memory core.store.entries) (conflict_set core.program.value memory) in
+    let laid : c.add_to.new.elements ≡ memory_in core.store = c.in_ok-add_to.ensures ∙ ap (λ es. es ++ memory_in core.store) c.clear.ensures in
+    IfOk-weaker c.first_unfired.result (found_is c.add_to.new.elements) (IsNext c.args.self.now)
+    (λ found is. subst (λ (k : CoreState). IsNext k found) c.self.view_is (first_unfired_is core found c.self.invariant (subst (λ memory. found_is memory found) laid is))) (search rules)
