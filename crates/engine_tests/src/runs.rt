@@ -33,7 +33,7 @@ fn choices(alloc: Global, journal: &Journal) -> Result<String, OutOfMemory> {
 fn told(alloc: Global, finished: &Finished) -> Result<String, OutOfMemory> {
     let core = &finished.core;
     let choices = choices(alloc, core.journal())?;
-    let elements = core.memory().len();
+    let elements = core.memory_len();
     let next = core.next();
     format!(in alloc;
         "{choices}{:?}, elements {elements}, next {next}",

@@ -37,10 +37,10 @@ pub fn plan_run(
     let base = Base::opening(alloc, opening, Refraction::Once);
     let Finished { core, ending } = run_alone(alloc, program, base, budget)?;
     let text = run_report(alloc, symbols, &ending, &core)?;
-    let (memory, journal) = core.into_parts();
+    let memory = core.copy_memory(alloc)?;
     let report = Report {
         status: Status::of_ending(ending),
-        journal,
+        journal: core.into_journal(),
         memory,
     };
     Ok(Plan { report, text })

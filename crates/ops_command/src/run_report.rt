@@ -69,7 +69,7 @@ pub fn run_report(
     ensures { IfOk result
         (λ text. text.items ≡ run_report core.now.program symbols.now ending.now core.now.state) }
 {
-    let elements = core.memory().len() as u64;
+    let elements = core.memory_len() as u64;
     let words = ending_words(alloc, core.program(), symbols, ending)?;
     let mut text = lay_out(alloc, core.journal().pieces(), symbols)?;
     end_line(&mut text)?;
