@@ -1,5 +1,5 @@
 -- A firing of a choice: its rule, its effect, and the state that its commit makes.
-use Rattle.std.proofs.Common.{◌≡◌, ℕ, ◌+◌, [], ◌∷◌, ◌++◌, length, true, false, ◌||◌, Option, None, Some, Result, Ok, Err, IsSome, option_map, slice_get, get_or, is_ok, refl, sym, ◌∙◌, ap, subst, rules}
+use Rattle.std.proofs.Common.{◌≡◌, ℕ, length, true, false, Option, None, Some, Result, Ok, Err, IsSome, option_map, slice_get, get_or, is_ok, refl, sym, ◌∙◌, ap, subst, rules}
 use Rattle.std.specs.Option.{option_map_or}
 use Rattle.std.proofs.lemmas.Option.{slice_get_read, slice_get_within}
 use Rattle.rule_base.specs.declared.instantiation.Choice.{Choice}
@@ -11,12 +11,10 @@ use Rattle.rule_base.specs.Bindings.{Bindings}
 use Rattle.rule_base.specs.Match.{match_of}
 use Rattle.rule_base.specs.ElementMatch.{bindings_with}
 use Rattle.rule_base.specs.State.{State}
-use Rattle.rule_base.specs.Step.{born, committed, effect_of, entry_of, matches, may_fire, memory_after, step, still_fired}
+use Rattle.rule_base.specs.Step.{effect_of, matches}
 use Rattle.rule_base.proofs.ElementMatchLemmas.{bindings_with-elements_at}
-use Rattle.rule_base.proofs.StepLemmas.{step-from_parts}
 use Rattle.rhs_actions.specs.declared.refusal.EffectRefusal.{EffectRefusal}
 use Rattle.rhs_actions.specs.Refusals.{TellsFailure}
-use Rattle.firing_core.specs.CoreState.{CoreState}
 use Rattle.firing_core.specs.Firing.{TellsFault}
 
 -- a choice that matches names a rule of the program, whose positive condition elements accept its elements
@@ -70,10 +68,3 @@ has_read program memory c rule has at =
 pub same_state : (s t : State) → s.memory ≡ t.memory → s.next ≡ t.next → s.fired ≡ t.fired → s.entries ≡ t.entries → s.halted ≡ t.halted → s.refraction ≡ t.refraction → s ≡ t
 same_state s t memory next fired entries halted refraction =
     λ i. record { memory = memory i; next = next i; fired = fired i; entries = entries i; halted = halted i; refraction = refraction i }
-
--- a state that is what the commit makes is the state after the step
-pub step-committed : (k : CoreState) (c : Choice) (done : Effect) (after : State) → effect_of k.program k.state.memory c ≡ Some (Ok done) → may_fire k.program k.state c ≡ true → after.memory ≡ memory_after k.state done → after.next ≡ k.state.next + length (born k.state.next done.changes) → after.fired ≡ still_fired k.state.refraction k.program after.memory (k.state.fired ++ c ∷ []) → after.entries ≡ k.state.entries ++ entry_of k.state.next c done ∷ [] → after.halted ≡ (k.state.halted || done.halts) → after.refraction ≡ k.state.refraction → step k.program k.state c ≡ Some after
-step-committed k c done after effect_is may memory next fired entries halted refraction =
-    let fired_is = fired ∙ ap (λ m. still_fired k.state.refraction k.program m (k.state.fired ++ c ∷ [])) memory in
-    let same : after ≡ committed k.program k.state c done = same_state after (committed k.program k.state c done) memory next fired_is entries halted refraction in
-    step-from_parts k.program k.state c done may effect_is ∙ ap (λ s. Some s) (sym same)

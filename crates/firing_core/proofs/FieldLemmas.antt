@@ -1,5 +1,5 @@
 -- The state that a core's fields hold: at its base, and after a firing.
-use Rattle.std.proofs.Common.{◌≡◌, ◌+◌, List, [], ◌∷◌, ◌++◌, ◌||◌, Bool, true, false, length, None, Ok, Some, arith, option_and_then, refl, sym, ◌∙◌, ap, subst, take, suc, zero}
+use Rattle.std.proofs.Common.{◌≡◌, ◌+◌, List, [], ◌∷◌, ◌++◌, ◌||◌, Bool, true, false, length, None, Ok, Some, arith, option_and_then, refl, sym, ◌∙◌, ap, subst, take}
 use Rattle.std.specs.List.{AllByRecursion}
 use Rattle.std.specs.Option.{option_map_or}
 use Rattle.std.proofs.lemmas.List.{map_push}
@@ -15,7 +15,6 @@ use Rattle.rule_base.specs.Step.{born, committed, effect_of, entry_of, may_fire,
 use Rattle.rule_base.specs.Run.{run}
 use Rattle.rule_base.proofs.MachineLemmas.{IsKeepingStep-sound}
 use Rattle.rule_base.proofs.StepLemmas.{run-append, step-from_parts}
-use Rattle.rule_base.proofs.EachLemmas.{Each-append}
 use Rattle.firing_core.specs.declared.machine.Core.TheInside.{Inside}
 use Rattle.refraction_index.specs.Firings.{Index, Tells}
 use Rattle.firing_core.specs.CoreFields.{IsIndexOf, core_in, fired_in, state_in}
@@ -49,7 +48,7 @@ fired_in-push program base entries s after entry ran steps =
     let choices_are : choices_of (entries ++ entry ∷ []) ≡ choices_of entries ++ c ∷ [] = map_push (λ (e : Entry). e.choice) entries entry in
     let last : run program s (c ∷ []) ≡ Some after = ap (option_and_then (λ (t : State). Some t)) steps in
     let all : run program (start base) (choices_of (entries ++ entry ∷ [])) ≡ Some after =
-        ap (run program (start base)) choices_are ∙ run-append program (start base) (choices_of entries) (c ∷ []) ∙ ap (option_and_then (λ (t : State). run program t (c ∷ []))) ran ∙ last in
+    ap (run program (start base)) choices_are ∙ run-append program (start base) (choices_of entries) (c ∷ []) ∙ ap (option_and_then (λ (t : State). run program t (c ∷ []))) ran ∙ last in
     ap (λ o. option_map_or (λ (t : State). t.fired) o []) all
 
 -- fields with a store and a halt that a firing has changed hold the state after the step
@@ -61,7 +60,7 @@ step-fields before store halted c done kept may effect base memory next entries 
     let steps : step program s c ≡ Some target = step-from_parts program s c done may effect in
     let after = state_in (record before { store = store; halted = halted }) in
     let fired : after.fired ≡ target.fired =
-        ap (λ b. fired_in program b store.entries) base ∙ ap (fired_in program before.store.base) entries ∙ fired_in-push program before.store.base before.store.entries s target (entry_of before.store.next c done) kept.lawful.ran steps in
+    ap (λ b. fired_in program b store.entries) base ∙ ap (fired_in program before.store.base) entries ∙ fired_in-push program before.store.base before.store.entries s target (entry_of before.store.next c done) kept.lawful.ran steps in
     let same : after ≡ target = same_state after target memory next fired entries halts (ap (λ (b : Base). b.refraction) base) in
     steps ∙ ap (λ t. Some t) (sym same)
 

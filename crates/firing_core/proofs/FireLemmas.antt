@@ -6,9 +6,9 @@ use Rattle.rule_base.specs.declared.base.Base.{Base}
 use Rattle.rule_base.specs.declared.entry.Entry.{Entry}
 use Rattle.rule_base.specs.declared.instantiation.Choice.{Choice}
 use Rattle.rule_base.specs.Effect.{Effect, removed_tags}
-use Rattle.rule_base.specs.Memory.{HasSize, Memory}
+use Rattle.rule_base.specs.Memory.{HasSize}
 use Rattle.rule_base.specs.Sound.{sizes_of}
-use Rattle.rule_base.specs.State.{State, count}
+use Rattle.rule_base.specs.State.{count}
 use Rattle.rule_base.specs.Step.{born, effect_of, entry_of, may_fire, step, without}
 use Rattle.rule_base.proofs.EachLemmas.{Each-append}
 use Rattle.commit_journal.specs.Entries.{born_by, born_in}
@@ -16,7 +16,6 @@ use Rattle.refraction_index.specs.Firings.{Index, Tells}
 use Rattle.refraction_index.proofs.StillFiredLemmas.{born_in-entry}
 use Rattle.firing_core.specs.declared.machine.Core.TheInside.{Inside}
 use Rattle.firing_core.specs.CoreFields.{HoldsKept, IsIndexOf, core_in, state_in}
-use Rattle.firing_core.specs.CoreState.{CoreState}
 use Rattle.firing_core.specs.Firing.{Fires}
 use Rattle.firing_core.specs.Kept.{IsKept}
 use Rattle.firing_core.specs.Store.{Stored, at_places, came, memory_in}

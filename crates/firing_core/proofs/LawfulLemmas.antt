@@ -1,24 +1,21 @@
 -- Lawful cores: a core at its base is one and ready for a firing, and a firing keeps it so.
-use Rattle.std.proofs.Common.{◌≡◌, ℕ, ◌+◌, ◌^◌, ◌<◌, ◌≤◌, [], ◌∷◌, ◌++◌, length, None, Some, Ok, option_and_then, slice_get, refl, sym, ◌∙◌, ap, subst, arith}
+use Rattle.std.proofs.Common.{◌≡◌, ℕ, ◌+◌, ◌<◌, ◌≤◌, [], ◌∷◌, ◌++◌, length, None, Some, option_and_then, slice_get, refl, sym, ◌∙◌, ap, subst, arith}
 use Rattle.std.proofs.lemmas.List.{length_push, map_push}
 use Rattle.rule_base.specs.declared.entry.Entry.{Entry}
 use Rattle.rule_base.specs.declared.instantiation.Choice.{Choice}
 use Rattle.rule_base.specs.declared.program.Program.{Program}
 use Rattle.rule_base.specs.declared.program.Rule.{Rule}
-use Rattle.rule_base.specs.Memory.{HasSize, elements_at}
 use Rattle.rule_base.specs.declared.base.Base.{Base}
 use Rattle.rule_base.specs.Sound.{IsSound, IsSoundRule, sizes_of}
-use Rattle.rule_base.specs.Effect.{Effect}
 use Rattle.rule_base.specs.State.{State, choices_of, count, start}
-use Rattle.rule_base.specs.Step.{born, effect_of, entry_of, step}
+use Rattle.rule_base.specs.Step.{entry_of, step}
 use Rattle.rule_base.specs.Run.{run}
 use Rattle.rule_base.proofs.EachLemmas.{Each-slice_get}
-use Rattle.rule_base.proofs.EffectLemmas.{IsSizedEffect-sound, length-born}
 use Rattle.rule_base.specs.Base.{IsLawfulBase}
 use Rattle.rule_base.specs.Ending.{IsBudget}
 use Rattle.rule_base.proofs.BaseLemmas.{IsState-start}
 use Rattle.rule_base.proofs.RunLemmas.{refraction-step}
-use Rattle.rule_base.proofs.MachineLemmas.{Each-elements_at, HasRule-effect_of, IsKeepingStep-sound}
+use Rattle.rule_base.proofs.MachineLemmas.{IsKeepingStep-sound}
 use Rattle.rule_base.proofs.StepLemmas.{IsStep-from_step, run-append}
 use Rattle.firing_core.specs.CoreState.{CoreState}
 use Rattle.firing_core.specs.Lawful.{IsEndingFault}
@@ -66,15 +63,6 @@ IsKept-step k c after kept within steps =
       no_claims = kept.no_claims;
       no_fault = kept.no_fault;
     }
-
--- the tags of the elements that a firing makes fit in 64 bits
-pub born_fit : (k : CoreState) (c : Choice) (done : Effect) → IsKept k → count k.state < k.budget → effect_of k.program k.state.memory c ≡ Some (Ok done) → k.state.next + length (born k.state.next done.changes) < 2 ^ 64
-born_fit k c done kept within is =
-    let sizes = sizes_of k.program.classes in
-    let has = HasRule-effect_of k.program k.state.memory c (Ok done) is in
-    let sound : IsSoundRule sizes has.rule = Each-slice_get (IsSoundRule sizes) k.program.rules c.rule has.rule kept.lawful.sound.sound_rules has.is in
-    let sized = IsSizedEffect-sound sizes has.rule (elements_at k.state.memory c.tags) done sound (Each-elements_at (HasSize sizes) k.state.memory c.tags kept.state.elements.sized) has.effect_is in
-    omega (arith, length-born k.state.next done.changes, sized.few, sound.few_actions, kept.next_is_low, kept.lawful.few.few)
 
 -- a rule of the program has at most 64 actions
 pub few_actions : (k : CoreState) (rule : Rule) (c : Choice) → IsKept k → slice_get k.program.rules c.rule ≡ Some rule → length rule.actions ≤ 64

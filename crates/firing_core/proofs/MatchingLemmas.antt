@@ -159,18 +159,6 @@ MayMatch-accepted cond conds memory b after e may positive is =
       bound_once = IsDistinct-after cond.tests (bound_variables conds) may.bound_once;
     }
 
--- a memory without its first element
-pub MayMatch-fewer : (conds : List Cond) (e : Element) (memory : Memory) (b : Bindings) → MayMatch conds (e ∷ memory) b → MayMatch conds memory b
-MayMatch-fewer conds e memory b may = record {
-  sizes = may.sizes;
-  sized = may.sized.1;
-  known = may.known;
-  have_values = may.have_values;
-  sound = may.sound;
-  bind_new = may.bind_new;
-  bound_once = may.bound_once;
-}
-
 -- a row without values
 binding_of-none : (vars var : ℕ) → binding_of (no_bindings vars) var ≡ None
 binding_of-none zero var = refl

@@ -1,6 +1,6 @@
 -- What the first unfired choice says of the run: it matches, and the run is not quiet.
 use Rattle.std.proofs.Common.{◌≡◌, List, [], ◌∷◌, Bool, true, false, not, cond, ◌&&◌, Option, Some, None, refl, sym, ◌∙◌, ap}
-use Rattle.std.specs.List.{AllByRecursion, find, list_all, list_any}
+use Rattle.std.specs.List.{AllByRecursion, find, list_all}
 use Rattle.rule_base.specs.declared.instantiation.Choice.{Choice}
 use Rattle.rule_base.specs.ConflictSet.{conflict_set}
 use Rattle.rule_base.specs.State.{has_fired}

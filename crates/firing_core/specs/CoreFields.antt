@@ -1,5 +1,5 @@
 -- How a core's fields give what contracts see of it.
-use Rattle.std.specs.Prelude.{ℕ, ◌≤◌, List, [], None, length, take}
+use Rattle.std.specs.Prelude.{◌≤◌, List, [], None, length, take}
 use Rattle.std.specs.List.{AllByRecursion}
 use Rattle.std.specs.Option.{option_map_or}
 use Rattle.rule_base.specs.declared.base.Base.{Base}

@@ -107,11 +107,7 @@ pub fn run_alone(
 }
 
 /// What comes next: the effect of the choice that is to fire then lies on the bench.
-fn next_turn(
-    alloc: Global,
-    core: &mut Core,
-    bench: &mut Workbench,
-) -> Result<Turn, OutOfMemory>
+fn next_turn(alloc: Global, core: &mut Core, bench: &mut Workbench) -> Result<Turn, OutOfMemory>
     ensures turn { IfOk result (IsTurn core.old bench.new.effect) }
     ensures same { core.new ≡ core.old }
 {

@@ -44,7 +44,15 @@ pub fn first_unfired(
     let mut number = 0;
     for rule in program.rules.as_slice() {
         let lists = lists_of(alloc, rule, memory)?;
-        let found = first_unfired_of(alloc, program, number, lists.as_slice(), memory, store, index)?;
+        let found = first_unfired_of(
+            alloc,
+            program,
+            number,
+            lists.as_slice(),
+            memory,
+            store,
+            index,
+        )?;
         if found.is_some() {
             return Ok(found);
         }

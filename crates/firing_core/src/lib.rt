@@ -5,8 +5,8 @@
 mod acceptance;
 mod claims;
 pub mod examples;
-mod fired;
 mod finishing;
+mod fired;
 mod instantiations;
 pub mod laws;
 mod machine;

@@ -189,7 +189,7 @@ impl Core {
     /// entry in the journal, which counts from 0. The caller knows that the choice may fire, so nothing
     /// is matched again. It takes memory only where the journal has to grow, and after want of it all
     /// is as before.
-    pub fn fire<L: Ledger>(
+    pub(crate) fn fire<L: Ledger>(
         &mut self,
         choice: &Choice,
         effect: &Effect,

@@ -1,5 +1,5 @@
 -- One entry more, and one fewer that is left.
-use Rattle.std.proofs.Common.{◌≡◌, ◌++◌, drop, ◌+◌, ◌∙◌, sym, ap, append_assoc}
+use Rattle.std.proofs.Common.{◌++◌, drop, ◌+◌, ◌∙◌, sym, ap, append_assoc}
 use Rattle.commit_journal.specs.Entries.{born_in}
 use Rattle.commit_journal.specs.EntryViews.{born_of}
 use Rattle.firing_core.proofs.BornLemmas.{born_in-next}

@@ -1,5 +1,4 @@
 -- One element more, and one fewer that is left.
-use Rattle.std.proofs.Common.{◌≡◌, ◌++◌, ◌∷◌, [], rules}
 use Rattle.rule_base.specs.Views.{element_in}
 use Rattle.commit_journal.specs.EntryViews.{born_of}
 use Rattle.firing_core.proofs.BornLemmas.{born_left}

@@ -1,5 +1,5 @@
 -- Each element of both has a size.
-use Rattle.std.proofs.Common.{◌≡◌, ◌++◌, ◌-◌, drop, ◌∙◌, ap, sym, subst, rules}
+use Rattle.std.proofs.Common.{◌≡◌, ◌++◌, drop, ◌∙◌, ap, sym, subst}
 use Rattle.std.specs.List.{AllByRecursion}
 use Rattle.rule_base.specs.Memory.{HasSize}
 use Rattle.rule_base.specs.Sound.{sizes_of}

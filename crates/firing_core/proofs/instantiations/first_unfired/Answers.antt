@@ -18,7 +18,7 @@ returns-then-is_some-clause-found c =
     let fired = is_fired_by c.args.program.now c.args.store.now.base c.args.memory.now c.args.store.now.entries in
     let lists_are = c.as_slice.ensures.value ∙ c.in_ok-lists.ensures in
     let found : c.in_ok-found.found ≡ first_unfired fired (instantiations c.args.memory.now (c.loop-rule.number, c.rule-item.result)) =
-        c.in_ok-found.ensures.found ∙ ap (λ lists. first_unfired fired (map (choice_with c.loop-rule.number) lists)) lists_are in
+    c.in_ok-found.ensures.found ∙ ap (λ lists. first_unfired fired (map (choice_with c.loop-rule.number) lists)) lists_are in
     sym (c.loop-rule.invariant.same ∙ first_unfired-here fired c.args.memory.now c.loop-rule.number c.args.program.now.rules c.loop-rule.rule-index c.rule-item.result c.in_ok-found.found (search rules) (search rules) found (sym c.if-is_some.ensures))
 
 pub loop-rule-preserved : goal.loop-rule-preserved
@@ -26,7 +26,7 @@ loop-rule-preserved c =
     let fired = is_fired_by c.args.program.now c.args.store.now.base c.args.memory.now c.args.store.now.entries in
     let lists_are = c.as_slice.ensures.value ∙ c.in_ok-lists.ensures in
     let found : c.in_ok-found.found ≡ first_unfired fired (instantiations c.args.memory.now (c.loop-rule.number, c.rule-item.result)) =
-        c.in_ok-found.ensures.found ∙ ap (λ lists. first_unfired fired (map (choice_with c.loop-rule.number) lists)) lists_are in
+    c.in_ok-found.ensures.found ∙ ap (λ lists. first_unfired fired (map (choice_with c.loop-rule.number) lists)) lists_are in
     record {
       kept = c.first_unfired_of.ensures.kept ∙ c.loop-rule.invariant.kept;
       same = c.loop-rule.invariant.same ∙ first_unfired-later fired c.args.memory.now c.loop-rule.number c.args.program.now.rules c.loop-rule.rule-index c.rule-item.result c.in_ok-found.found (search rules) (search rules) found (sym c.if-is_some.ensures);

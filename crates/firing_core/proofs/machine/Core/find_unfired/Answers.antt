@@ -1,5 +1,5 @@
 -- The filters' answer over the fields is the answer over the core that they hold.
-use Rattle.std.proofs.Common.{◌≡◌, ◌++◌, Option, rules, subst, sym, ap, ◌∙◌}
+use Rattle.std.proofs.Common.{◌≡◌, ◌++◌, Option, rules, subst, ap, ◌∙◌}
 use Rattle.std.proofs.lemmas.Result.{IfOk-weaker}
 use Rattle.rule_base.specs.declared.instantiation.Choice.{Choice}
 use Rattle.rule_base.specs.ConflictSet.{conflict_set}

@@ -1,5 +1,5 @@
 -- The fields hold the state after the step, which keeps a lawful core lawful.
-use Rattle.std.proofs.Common.{◌≡◌, ◌+◌, ◌<◌, ◌||◌, true, Ok, Some, refl, rules, sym, subst}
+use Rattle.std.proofs.Common.{◌≡◌, ◌<◌, ◌||◌, true, Ok, Some, rules, sym, subst}
 use Rattle.rule_base.specs.declared.instantiation.Choice.{Choice}
 use Rattle.rule_base.specs.Effect.{Effect}
 use Rattle.rule_base.specs.State.{count}
@@ -7,10 +7,9 @@ use Rattle.rule_base.specs.Step.{effect_of, may_fire}
 use Rattle.commit_journal.specs.declared.room.Room.{Room}
 use Rattle.commit_journal.specs.Room.{FitsIn}
 use Rattle.firing_core.specs.CoreState.{CoreState}
-use Rattle.firing_core.specs.CoreFields.{HoldsKept, core_in, state_in}
+use Rattle.firing_core.specs.CoreFields.{HoldsKept, core_in}
 use Rattle.firing_core.specs.declared.machine.Core.TheInside.{Inside}
 use Rattle.firing_core.specs.Firing.{Fires}
-use Rattle.firing_core.specs.Store.{Stored}
 use Rattle.firing_core.proofs.FireLemmas.{Fires-fired, HoldsKept-fired, IsCommitted, MayFireFields}
 use Rattle.firing_core.proofs.machine.Core.fire.Goals as goal
 
