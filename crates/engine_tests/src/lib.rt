@@ -1,10 +1,12 @@
 //! Tests of the crates that the engine is made of, by their public calls: copies of the data of rule programs, rows of
-//! bindings, effects of firings and their entries, runs of cores to their endings, footprints, places of working memory, and when choices last
-//! fired. What conditions accept and what runs come to, the program shows where it can: that is in `cases/`.
+//! bindings, effects of firings and their entries, runs of cores to their endings, footprints, claims that stand, places of working memory,
+//! and when choices last fired. What conditions accept and what runs come to, the program shows where it can: that is in `cases/`.
 #![tactic(auto)]
 
 #[cfg(test)]
 mod bindings;
+#[cfg(test)]
+mod claims;
 #[cfg(test)]
 mod commits;
 #[cfg(test)]
@@ -17,6 +19,8 @@ mod footprints;
 mod places;
 #[cfg(test)]
 mod refraction;
+#[cfg(test)]
+mod refusals;
 #[cfg(test)]
 mod runs;
 #[cfg(test)]

@@ -19,7 +19,7 @@ use std::sync::Arc;
 use std::test::Fail;
 
 /// The choices that a journal tells, in a line.
-fn choices(alloc: Global, journal: &Journal) -> Result<String, OutOfMemory> {
+pub fn choices(alloc: Global, journal: &Journal) -> Result<String, OutOfMemory> {
     let mut text = String::new(alloc);
     for place in 0..journal.len() {
         let entry = journal.entry(place);

@@ -1,5 +1,5 @@
 -- The state that a core's fields hold: at its base, and after a firing.
-use Rattle.std.proofs.Common.{◌≡◌, ◌+◌, List, [], ◌∷◌, ◌++◌, ◌||◌, Bool, true, false, length, None, Ok, Some, arith, option_and_then, refl, sym, ◌∙◌, ap, subst, take}
+use Rattle.std.proofs.Common.{◌≡◌, ◌+◌, List, [], ◌∷◌, ◌++◌, ◌||◌, Bool, true, false, length, map, None, Ok, Some, arith, option_and_then, refl, sym, ◌∙◌, ap, subst, take}
 use Rattle.std.specs.List.{AllByRecursion}
 use Rattle.std.specs.Option.{option_map_or}
 use Rattle.std.proofs.lemmas.List.{map_push}
@@ -18,7 +18,11 @@ use Rattle.rule_base.proofs.StepLemmas.{run-append, step-from_parts}
 use Rattle.firing_core.specs.declared.machine.Core.TheInside.{Inside}
 use Rattle.refraction_index.specs.Firings.{Index, Tells}
 use Rattle.firing_core.specs.CoreFields.{IsIndexOf, core_in, fired_in, state_in}
+use Rattle.interference.specs.Footprint.{footprint}
+use Rattle.standing_claims.specs.declared.claim.Claim.{Claim}
+use Rattle.standing_claims.specs.Standing.{Standing}
 use Rattle.firing_core.specs.CoreState.{CoreState}
+use Rattle.firing_core.specs.Refusals.{claimed_footprints}
 use Rattle.firing_core.specs.Kept.{IsKept}
 use Rattle.firing_core.specs.Store.{Stored, memory_in}
 use Rattle.firing_core.proofs.CommitLemmas.{same_state}
@@ -29,10 +33,14 @@ state_in-start core base base_is memory next entries halted =
     let fired : (state_in core).fired ≡ base.fired = ap (λ b. fired_in core.program.value b core.store.entries) base_is ∙ ap (fired_in core.program.value base) entries in
     same_state (state_in core) (start base) memory next fired entries halted (ap (λ (b : Base). b.refraction) base_is)
 
-pub core_in-start : (core : Inside) (base : Base) → core.store.base ≡ base → memory_in core.store ≡ base.elements → core.store.next ≡ base.next → core.store.entries ≡ [] → core.halted ≡ false → core_in core ≡ record { program = core.program.value; base = base; budget = core.budget; state = start base; claims = []; given = 0; fault = None }
-core_in-start core base base_is memory next entries halted =
+pub core_in-start : (core : Inside) (base : Base) → core.store.base ≡ base → memory_in core.store ≡ base.elements → core.store.next ≡ base.next → core.store.entries ≡ [] → core.halted ≡ false → core.claims ≡ record { claims = []; footprints = []; given = 0; spare = 0 } → core.fault ≡ None → core_in core ≡ record { program = core.program.value; base = base; budget = core.budget; state = start base; claims = []; given = 0; fault = None }
+core_in-start core base base_is memory next entries halted claims fault =
     let state = state_in-start core base base_is memory next entries halted in
-    λ i. record { program = core.program.value; base = base_is i; budget = core.budget; state = state i; claims = []; given = 0; fault = None }
+    λ i. record { program = core.program.value; base = base_is i; budget = core.budget; state = state i; claims = (claims i).claims; given = (claims i).given; fault = fault i }
+
+-- no claims, and no footprints
+pub footprints-start : (core : Inside) → core.claims ≡ record { claims = []; footprints = []; given = 0; spare = 0 } → core.claims.footprints ≡ claimed_footprints (core_in core)
+footprints-start core claims = ap (λ (s : Standing). s.footprints) claims ∙ sym (ap (λ (s : Standing). map (λ (claim : Claim). footprint core.program.value claim.candidate) s.claims) claims)
 
 -- an index that has taken in nothing
 pub IsIndexOf-start : (base stored : Base) (entries : List Entry) (index : Index) → stored ≡ base → index.seen ≡ 0 → Tells base.fired [] index → IsIndexOf stored.fired entries index

@@ -91,6 +91,8 @@ HoldsKept-fired before reserved new halted c done may is halts =
     record {
       kept = subst IsKept (sym (same_core before new halted base_is)) (IsKept-step k c (state_in (record before { store = new; halted = halted })) may.holds.kept may.within steps);
       index = index_after old.base new.base old.entries new.entries (entry_of old.next c done) before.index base_is entries_are may.holds.index;
+      splits = may.holds.splits;
+      footprints = may.holds.footprints;
       born = subst (λ es. AllByRecursion (HasSize sizes) (born_in es)) (sym entries_are)
           (subst (AllByRecursion (HasSize sizes)) (sym (born_in-push old.entries old.next c done)) (Each-append (HasSize sizes) (born_in old.entries) (born old.next done.changes) may.holds.born (sized-born k c done may.holds.kept may.may may.effect)));
     }

@@ -2,10 +2,11 @@
 pub mod ListLemmas
 pub mod TagLemmas
 pub mod StoreLemmas
-pub mod BornLemmas
 pub mod StoredLemmas
 pub mod MatchingLemmas
 pub mod AcceptanceLemmas
+pub mod LivingLemmas
+pub mod BornLemmas
 pub mod FilterLemmas
 pub mod UnfiredLemmas
 -- the firing
@@ -19,4 +20,5 @@ pub mod FireLemmas
 pub mod PairLemmas
 pub mod FittingLemmas
 pub mod ClaimLemmas
+pub mod GoneLemmas
 pub mod EventLemmas

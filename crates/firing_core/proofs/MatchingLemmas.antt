@@ -26,7 +26,7 @@ Each-place P (y ∷ xs) zero x each within at = subst P (sym at) each.0
 Each-place P (y ∷ xs) (suc i) x each within at = Each-place P xs i x each.1 (omega arith) at
 
 -- what holds of each element of two lists joined
-Each-split : {X : Type 0} (P : X → Type 0) (xs ys : List X) → AllByRecursion P (xs ++ ys) → AllByRecursion P xs × AllByRecursion P ys
+pub Each-split : {X : Type 0} (P : X → Type 0) (xs ys : List X) → AllByRecursion P (xs ++ ys) → AllByRecursion P xs × AllByRecursion P ys
 Each-split P [] ys each = (tt, each)
 Each-split P (x ∷ xs) ys each = let rest = Each-split P xs ys each.1 in ((each.0, rest.0), rest.1)
 
@@ -130,6 +130,13 @@ MayFilter-first cond conds memory b may = record {
   asked = All-MayAsk cond conds memory b may memory may.sized;
   placed = All-HasPlace-sound (slice_index may.sizes cond.class) (length b) may.known cond.tests may.sound.1;
 }
+
+-- the same of two memories joined
+pub MayFilter-both : (cond : Cond) (conds : List Cond) (memory more : Memory) (b : Bindings) → MayMatch (cond ∷ conds) (memory ++ more) b → MayFilter cond memory b × MayFilter cond more b
+MayFilter-both cond conds memory more b may =
+    let filter = MayFilter-first cond conds (memory ++ more) b may in
+    let asked = Each-split (MayAsk cond b) memory more filter.asked in
+    (record { asked = asked.0; placed = filter.placed }, record { asked = asked.1; placed = filter.placed })
 
 -- after a negated condition element the others may be matched
 pub MayMatch-negated : (cond : Cond) (conds : List Cond) (memory : Memory) (b : Bindings) → MayMatch (cond ∷ conds) memory b → cond.negated ≡ true → MayMatch conds memory b

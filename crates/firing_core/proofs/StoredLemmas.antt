@@ -1,5 +1,5 @@
 -- A store's parts: what follows of them, and what each change leaves of it.
-use Rattle.std.proofs.Common.{◌≡◌, ℕ, ◌+◌, ◌<◌, List, [], ◌∷◌, ◌++◌, Bool, not, cond, ◌==◌, None, Some, length, slice_get, slice_index_or, take, suc, zero, refl, ap, ◌∙◌, subst, sym, append-nil, append_assoc, arith, length-append}
+use Rattle.std.proofs.Common.{◌≡◌, ℕ, ◌+◌, ◌<◌, List, [], ◌∷◌, ◌++◌, Bool, not, cond, ◌==◌, None, Some, length, slice_get, slice_index_or, take, true, false, Option, option_to_list, suc, zero, refl, ap, ◌∙◌, subst, sym, append-nil, append_assoc, arith, length-append}
 use Rattle.std.specs.List.{AllByRecursion, filter, filter_map, range_with_len}
 use Rattle.std.proofs.Math.Seq.{take-suc}
 use Rattle.std.proofs.lemmas.Grind.{flat_map-append}
@@ -18,7 +18,7 @@ use Rattle.commit_journal.proofs.CommitLemmas.{consecutive}
 use Rattle.refraction_index.proofs.StillFiredLemmas.{born_in-entry}
 use Rattle.working_memory.specs.Memory.{Places, has_place}
 use Rattle.working_memory.proofs.PlaceLemmas.{below-range}
-use Rattle.firing_core.specs.Store.{IsPlaceOf, IsSameBesideMemory, IsStored, Stored, at_places, came, living, memory_in}
+use Rattle.firing_core.specs.Store.{IsPlaceOf, IsSameBesideMemory, IsStored, Stored, at_places, came, living, living_at, memory_in}
 use Rattle.firing_core.proofs.StoreLemmas.{Rises-came, absent-at_places, at_places-append, at_places-more, at_places-new, element_at-places, length-at_places, without-absent, without-append, without-place}
 
 -- the tags of all that came rise
@@ -103,18 +103,32 @@ places_next places now first last n before is =
     ∙ ap (λ p. places ++ (range_with_len first n ++ p ∷ [])) is
     ∙ ap (λ ps. places ++ ps) (range_next first n)
 
--- the living at one slot more
-pub living_next : (s : Stored) (before now : List Element) (slots : List ℕ) (i : ℕ) → i < length slots → now ≡ before ++ at_places (came s.base s.entries) (filter (has_place s.places) (take i slots)) → now ++ living s (slice_index_or slots i 0) ≡ before ++ at_places (came s.base s.entries) (filter (has_place s.places) (take (i + 1) slots))
-living_next s before now slots i lt so_far =
+-- the element at a place, where that is in working memory, and where it isn't
+pub living_is : (s : Stored) (place : ℕ) (has : Bool) → has ≡ has_place s.places place → option_to_list (cond has (slice_get (came s.base s.entries) place) None) ≡ living s place
+living_is s place true told = rw (sym told) (one (slice_get (came s.base s.entries) place) refl)
+  where
+    one : (o : Option Element) → slice_get (came s.base s.entries) place ≡ o → option_to_list o ≡ at_places (came s.base s.entries) (place ∷ [])
+    one None is = rw is refl
+    one (Some e) is = rw is refl
+living_is s place false told = rw (sym told) refl
+
+-- what lives at slots one behind another
+pub living_at-append : (s : Stored) (ps qs : List ℕ) → living_at s (ps ++ qs) ≡ living_at s ps ++ living_at s qs
+living_at-append s ps qs =
     let all = came s.base s.entries in
     let has = has_place s.places in
+    ap (at_places all) (filter-append has ps qs) ∙ at_places-append all (filter has ps) (filter has qs)
+
+-- the living at one slot more
+pub living_next : (s : Stored) (before now : List Element) (slots : List ℕ) (i : ℕ) → i < length slots → now ≡ before ++ living_at s (take i slots) → now ++ living s (slice_index_or slots i 0) ≡ before ++ living_at s (take (i + 1) slots)
+living_next s before now slots i lt so_far =
     let slot = slice_index_or slots i 0 in
     let next : suc i ≡ i + 1 = omega arith in
     ap (λ es. es ++ living s slot) so_far
-    ∙ append_assoc before (at_places all (filter has (take i slots))) (living s slot)
-    ∙ ap (λ es. before ++ es) (sym (at_places-append all (filter has (take i slots)) (filter has (slot ∷ [])))
-    ∙ ap (at_places all) (sym (filter-append has (take i slots) (slot ∷ [])) ∙ ap (filter has) (sym (take-suc slots i 0 lt)))
-    ∙ ap (λ n. at_places all (filter has (take n slots))) next)
+    ∙ append_assoc before (living_at s (take i slots)) (living s slot)
+    ∙ ap (λ es. before ++ es) (sym (living_at-append s (take i slots) (slot ∷ []))
+    ∙ ap (living_at s) (sym (take-suc slots i 0 lt))
+    ∙ ap (λ n. living_at s (take n slots)) next)
 
 -- at the beginning, with the places of the base's elements
 pub IsStored-new : (base : Base) (entries : List Entry) (next count : ℕ) (memory : Places) → Rises (tags_of base.elements) → AllByRecursion (λ (e : Element). e.tag < base.next) base.elements → entries ≡ [] → next ≡ base.next → count ≡ length base.elements → memory.places ≡ range_with_len 0 count → memory.came ≡ count → IsStored base entries next memory

@@ -1,5 +1,5 @@
 -- How a core's fields give what contracts see of it.
-use Rattle.std.specs.Prelude.{◌≤◌, List, [], None, length, take}
+use Rattle.std.specs.Prelude.{◌≡◌, ◌≤◌, List, [], length, take}
 use Rattle.std.specs.List.{AllByRecursion}
 use Rattle.std.specs.Option.{option_map_or}
 use Rattle.rule_base.specs.declared.base.Base.{Base}
@@ -13,7 +13,9 @@ use Rattle.rule_base.specs.Run.{run}
 use Rattle.commit_journal.specs.Entries.{born_in}
 use Rattle.refraction_index.specs.Firings.{Index, Tells}
 use Rattle.firing_core.specs.declared.machine.Core.TheInside.{Inside}
+use Rattle.interference.specs.Splits.{splits_of}
 use Rattle.firing_core.specs.CoreState.{CoreState}
+use Rattle.firing_core.specs.Refusals.{claimed_footprints}
 use Rattle.firing_core.specs.Kept.{IsKept}
 use Rattle.firing_core.specs.Store.{memory_in}
 
@@ -39,9 +41,9 @@ core_in core = record {
   base = core.store.base;
   budget = core.budget;
   state = state_in core;
-  claims = [];
-  given = 0;
-  fault = None;
+  claims = core.claims.claims;
+  given = core.claims.given;
+  fault = core.fault;
 }
 
 -- the index has taken in some of the entries, and tells of them
@@ -53,5 +55,8 @@ pub record IsIndexOf (before : List Choice) (entries : List Entry) (index : Inde
 pub record HoldsKept (core : Inside) : Type 0 where
   pub kept : IsKept (core_in core)
   pub index : IsIndexOf core.store.base.fired core.store.entries core.index
+  pub splits : core.splits ≡ splits_of core.program.value
+  -- each claim stands with its footprint
+  pub footprints : core.claims.footprints ≡ claimed_footprints (core_in core)
   -- each element that was ever made has a size
   pub born : AllByRecursion (HasSize (sizes_of core.program.value.classes)) (born_in core.store.entries)

@@ -1,7 +1,8 @@
 -- What contracts see of a core.
-use Rattle.std.specs.Prelude.{◌≡◌, ℕ, List, [], ◌∷◌, Option, is_some, ◌==◌}
+use Rattle.std.specs.Prelude.{◌≡◌, ℕ, List, [], ◌∷◌, Option, drop, is_some, take, ◌==◌}
 use Rattle.rule_base.specs.declared.program.Program.{Program}
 use Rattle.rule_base.specs.declared.base.Base.{Base}
+use Rattle.rule_base.specs.declared.entry.Entry.{Entry}
 use Rattle.rule_base.specs.Chains.{only_if}
 use Rattle.rule_base.specs.State.{State, count}
 use Rattle.interference.specs.Pins.{first_answer}
@@ -34,3 +35,7 @@ IsSameRun old new = IsRunOf old.program old.base old.budget new
 -- how the core has ended, if it has: by a halt, else by its budget, else by a fault
 abbrev pub ended : CoreState → Option How
 ended k = first_answer (λ o. o) (only_if k.state.halted how.Halted ∷ only_if (count k.state == k.budget) how.Budget ∷ only_if (is_some k.fault) how.Fault ∷ [])
+
+-- so many entries of its journal, from a place on
+abbrev pub looked : CoreState → ℕ → ℕ → List Entry
+looked k position most = take most (drop position k.state.entries)

@@ -51,6 +51,16 @@ claim_of_choice k c = find (λ (claim : Claim). same_choice claim.candidate.choi
 abbrev pub is_full : CoreState → Bool
 is_full k = (k.given == 2 ^ 64 - 1) || (length k.claims == 4095)
 
+-- why no further claim of the choice may stand: one stands already, or none has room
+abbrev pub crowdings : CoreState → Choice → List (Option ClaimRefusal)
+crowdings k c =
+    option_map (λ (claim : Claim). refusal.Claimed claim.number) (claim_of_choice k c)
+    ∷ only_if (is_full k) (refusal.Full k.given (length k.claims))
+    ∷ []
+
+abbrev pub crowding : CoreState → Choice → Option ClaimRefusal
+crowding k c = first_answer (λ o. o) (crowdings k c)
+
 -- why the candidate can't be claimed, if it can't: the first of these, in this order
 abbrev pub refusals : CoreState → Candidate → List (Option ClaimRefusal)
 refusals k candidate =
@@ -59,9 +69,7 @@ refusals k candidate =
     ∷ option_map refusal.Gone (gone_tag k.state.memory candidate.elements)
     ∷ option_map refusal.Unmatched (failing_condition k.program k.state.memory candidate.choice)
     ∷ only_if (has_fired k.state candidate.choice) refusal.Fired
-    ∷ option_map (λ (claim : Claim). refusal.Claimed claim.number) (claim_of_choice k candidate.choice)
-    ∷ only_if (is_full k) (refusal.Full k.given (length k.claims))
-    ∷ []
+    ∷ crowdings k candidate.choice
 
 abbrev pub claim_refusal : CoreState → Candidate → Option ClaimRefusal
 claim_refusal k candidate = first_answer (λ o. o) (refusals k candidate)

@@ -52,6 +52,10 @@ pub record IsSameBesideMemory (old new : Stored) : Type 0 where
   pub next : new.next ≡ old.next
   pub room : new.room ≡ old.room
 
+-- the elements at these places that are in working memory
+abbrev pub living_at : Stored → List ℕ → Memory
+living_at stored places = at_places (came stored.base stored.entries) (filter (has_place stored.places) places)
+
 -- the element at a place, if it is in working memory
 abbrev pub living : Stored → ℕ → Memory
-living stored place = at_places (came stored.base stored.entries) (filter (has_place stored.places) (place ∷ []))
+living stored place = living_at stored (place ∷ [])

@@ -1,15 +1,16 @@
 //! The conflict set, found anew by plain filters over the whole memory.
 
-ghost use Rattle.std.specs.Prelude.{◌≡◌, [], ◌∷◌, ◌++◌, false, IfOk, OnOk, not, map};
+ghost use Rattle.std.specs.Prelude.{◌≡◌, [], ◌∷◌, ◌++◌, false, true, IfOk, OnOk, map};
 ghost use Rattle.rule_base.specs.Bindings.{no_bindings};
-ghost use Rattle.rule_base.specs.Memory.{IsMemory};
+ghost use Rattle.rule_base.specs.Memory.{HasSize, IsMemory};
 ghost use Rattle.rule_base.specs.Sound.{IsSound, sizes_of};
 ghost use Rattle.rule_base.specs.ConflictSet.{tags_by, tag_lists, instantiations, conflict_set};
 ghost use Rattle.firing_core.specs.Matching.{MayMatch};
 ghost use Rattle.commit_journal.specs.Entries.{born_in};
 ghost use Rattle.refraction_index.specs.Firings.{Tells};
 ghost use Rattle.refraction_index.specs.Numbers.{choice_with};
-ghost use Rattle.rule_base.specs.Memory.{HasSize};
+ghost use Rattle.rule_base.specs.Step.{matches};
+ghost use Rattle.firing_core.specs.Store.{memory_in};
 ghost use Rattle.std.specs.List.{AllByRecursion};
 ghost use Rattle.firing_core.specs.Unfired.{first_unfired, is_fired_by};
 
@@ -23,17 +24,19 @@ use rule_base::{Choice, Cond, Elements, Program, Rule};
 use std::alloc::Global;
 
 /// The first choice of the conflict set that is not fired, or none where each is, by an index that has
-/// taken in the journal. The instantiations of one rule are looked for at once, those of later rules only
-/// where all of its own are fired.
+/// taken in the journal. The memory is a copy of the store's. The instantiations of one rule are looked for
+/// at once, those of later rules only where all of its own are fired. The row is only room.
 pub fn first_unfired(
     alloc: Global,
     program: &Program,
     memory: &Elements,
     store: &Store,
     index: &mut RefractionIndex,
+    binds: &mut Binds,
 ) -> Result<Option<Choice>, OutOfMemory>
     requires sound { IsSound program.now }
-    requires memory { AllByRecursion (HasSize (sizes_of program.now.classes)) memory.now }
+    requires memory { IsMemory (sizes_of program.now.classes) memory.now }
+    requires same { memory.now ≡ memory_in store.now }
     requires born { AllByRecursion (HasSize (sizes_of program.now.classes)) (born_in store.now.entries) }
     requires tells { Tells store.now.base.fired store.now.entries index.old }
     ensures found { IfOk result (λ found. found ≡ first_unfired
@@ -43,15 +46,15 @@ pub fn first_unfired(
 {
     let mut number = 0;
     for rule in program.rules.as_slice() {
-        let lists = lists_of(alloc, rule, memory)?;
+        let lists = lists_of(alloc, rule, memory, binds)?;
         let found = first_unfired_of(
             alloc,
             program,
             number,
             lists.as_slice(),
-            memory,
             store,
             index,
+            binds,
         )?;
         if found.is_some() {
             return Ok(found);
@@ -66,13 +69,14 @@ fn lists_of(
     alloc: Global,
     rule: &Rule,
     memory: &Elements,
+    binds: &mut Binds,
 ) -> Result<Vec<Sequence<u64>>, OutOfMemory>
     requires { MayMatch rule.now.conds memory.now (no_bindings rule.now.vars) }
     ensures { IfOk result
         (λ lists. lists.items ≡ tag_lists rule.now.conds memory.now (no_bindings rule.now.vars)) }
 {
-    let mut binds = Binds::new(alloc, rule.vars)?;
-    tag_lists(alloc, rule.conds.as_slice(), memory, &mut binds)
+    binds.renew(rule.vars)?;
+    tag_lists(alloc, rule.conds.as_slice(), memory, binds)
 }
 
 /// The first choice of the rule with this number and tags of these lists that is not fired.
@@ -81,16 +85,18 @@ fn first_unfired_of(
     program: &Program,
     number: u32,
     lists: &[Sequence<u64>],
-    memory: &Elements,
     store: &Store,
     index: &mut RefractionIndex,
+    binds: &mut Binds,
 ) -> Result<Option<Choice>, OutOfMemory>
     requires sound { IsSound program.now }
-    requires memory { AllByRecursion (HasSize (sizes_of program.now.classes)) memory.now }
+    requires memory { IsMemory (sizes_of program.now.classes) (memory_in store.now) }
     requires born { AllByRecursion (HasSize (sizes_of program.now.classes)) (born_in store.now.entries) }
     requires tells { Tells store.now.base.fired store.now.entries index.old }
+    requires matching { AllByRecursion
+        (λ tags. matches program.now (memory_in store.now) (choice_with number tags) ≡ true) lists.now }
     ensures found { IfOk result (λ found. found ≡ first_unfired
-        (is_fired_by program.now store.now.base memory.now store.now.entries)
+        (is_fired_by program.now store.now.base (memory_in store.now) store.now.entries)
         (map (choice_with number) lists.now)) }
     ensures kept { index.new ≡ index.old }
 {
@@ -99,7 +105,7 @@ fn first_unfired_of(
             rule: number,
             tags: Sequence::from_vec(Vec::from_slice(alloc, tags.as_slice())?),
         };
-        if !is_fired(alloc, program, memory, store, index, &choice)? {
+        if !is_fired(program, store, index, &choice, binds)? {
             return Ok(Some(choice));
         }
     }

@@ -5,11 +5,14 @@
 mod acceptance;
 mod claims;
 pub mod examples;
+mod failing;
 mod finishing;
 mod fired;
+mod gone;
 mod instantiations;
 pub mod laws;
 mod machine;
+mod negation;
 mod store;
 mod tags;
 mod workbench;

@@ -6,18 +6,29 @@ ghost use Rattle.rule_base.specs.State.{count, start};
 ghost use Rattle.rule_base.specs.Step.{effect_of, may_fire, matches};
 ghost use Rattle.rule_base.specs.Base.{IsLawfulBase};
 ghost use Rattle.rule_base.specs.Ending.{IsBudget};
-ghost use Rattle.firing_core.specs.CoreState.{IsRunOf};
+ghost use Rattle.rule_base.specs.Fits.{Fits};
+ghost use Rattle.interference.specs.Footprint.{footprint};
+ghost use Rattle.firing_core.specs.CoreState.{IsRunOf, ended, looked};
+ghost use Rattle.rule_base.specs.State.{has_fired};
+ghost use Rattle.firing_core.specs.Refusals.{busy_lock, claim_refusal, crowding};
 ghost use Rattle.firing_core.specs.Lawful.{IsLawful};
 ghost use Rattle.firing_core.specs.Firing.{IsNext, Fires, TellsFault};
 
+use crate::claims::{ClaimRefusal, FaultSeen, How};
+use crate::failing::failing_condition;
+use crate::fired::is_fired;
+use crate::gone::gone_tag;
 use crate::instantiations::first_unfired;
 use crate::store::Store;
 use crate::workbench::Workbench;
 use commit_journal::{Journal, Room};
+use element_tests::Binds;
+use interference::{Splits, footprint};
 use ops_text::OutOfMemory;
 use refraction_index::RefractionIndex;
 use rhs_actions::{Effect, EffectRefusal, fire_into};
-use rule_base::{Base, Choice, Elements, Program, Steps};
+use rule_base::{Base, Busy, Candidate, Choice, Elements, Mode, Program, Steps};
+use standing_claims::Standing;
 use std::alloc::Global;
 use std::marker::Model;
 use std::sync::Arc;
@@ -31,8 +42,13 @@ pub struct Core {
     budget: u64,
     store: Store,
     halted: bool,
+    fault: Option<FaultSeen>,
+    claims: Standing,
+    splits: Splits,
     /// When choices last fired. Firings don't fill it: whoever asks has it take in the journal first.
     index: RefractionIndex,
+    /// Room for the bindings of a match.
+    binds: Binds,
 }
 
 impl Model for Core {
@@ -66,6 +82,8 @@ impl Core {
         ensures run { IfOk result (IsRunOf program.value base budget) }
         ensures begins { IfOk result (λ core. core.state ≡ start base) }
     {
+        let binds = Binds::new(alloc, 0)?;
+        let splits = Splits::new(alloc, &program)?;
         let index = RefractionIndex::new(alloc, base.fired.as_slice())?;
         let store = Store::new(alloc, base)?;
         Ok(Core {
@@ -73,7 +91,11 @@ impl Core {
             budget,
             store,
             halted: false,
+            fault: None,
+            claims: Standing::new(alloc),
+            splits,
             index,
+            binds,
         })
     }
 
@@ -123,6 +145,110 @@ impl Core {
         &self.program
     }
 
+    /// So many entries of the journal from a place on, or all from there where there are fewer, as a
+    /// journal of its own. What stands before them costs nothing.
+    pub fn look(&self, alloc: Global, position: u64, most: u32) -> Result<Journal, OutOfMemory>
+        ensures { IfOk result (λ some. some.entries ≡ looked self.now position most) }
+    {
+        self.store.journal().stretch(alloc, position, most)
+    }
+
+    /// How the core has ended, if it has.
+    pub fn ended(&self) -> Option<How>
+        ensures { result ≡ ended self.now }
+    {
+        if self.halted {
+            Some(How::Halted)
+        } else if self.count() == self.budget {
+            Some(How::Budget)
+        } else if self.fault.is_some() {
+            Some(How::Fault)
+        } else {
+            None
+        }
+    }
+
+    /// The first lock that a candidate asks for and on which the claims that stand leave no room for it,
+    /// if there is one: one look-up for each lock. `room` then has the candidate's footprint; after want
+    /// of memory what it has is of no use.
+    pub fn busy(
+        &self,
+        candidate: &Candidate,
+        room: &mut Vec<(u32, Mode)>,
+    ) -> Result<Option<Busy>, OutOfMemory>
+        requires { Fits self.now.program candidate.now }
+        ensures busy { IfOk result (λ busy. busy ≡ busy_lock self.now candidate.now) }
+        ensures room { OnOk result (room.new.items ≡ footprint self.now.program candidate.now) }
+    {
+        footprint(&self.program, &self.splits, candidate, room)?;
+        Ok(self.claims.busy(room.as_slice()))
+    }
+
+    /// Why a candidate can't be claimed, if it can't: the first of the reasons, in their order. `room` then
+    /// has the candidate's footprint where no lock is busy.
+    pub fn refusal(
+        &mut self,
+        alloc: Global,
+        candidate: &Candidate,
+        room: &mut Vec<(u32, Mode)>,
+    ) -> Result<Option<ClaimRefusal>, OutOfMemory>
+        requires { Fits self.old.program candidate.now }
+        ensures refusal { IfOk result (λ refusal. refusal ≡ claim_refusal self.old candidate.now) }
+        ensures same { self.new ≡ self.old }
+    {
+        if let Some(busy) = self.busy(candidate, room)? {
+            return Ok(Some(ClaimRefusal::Busy(busy)));
+        }
+        if let Some(how) = self.ended() {
+            return Ok(Some(ClaimRefusal::Ended(how)));
+        }
+        if let Some(tag) = gone_tag(&self.store, &candidate.elements) {
+            return Ok(Some(ClaimRefusal::Gone { tag }));
+        }
+        let choice = &candidate.choice;
+        let failing = failing_condition(&self.program, &self.store, choice, &mut self.binds)?;
+        if let Some(condition) = failing {
+            return Ok(Some(ClaimRefusal::Unmatched { condition }));
+        }
+        if self.has_fired(alloc, choice)? {
+            return Ok(Some(ClaimRefusal::Fired));
+        }
+        Ok(self.crowded(choice))
+    }
+
+    /// Whether a choice that matches has fired. It is one look-up under `Once`, once the index has taken in
+    /// the journal, which costs a step for each entry that it hasn't seen.
+    fn has_fired(&mut self, alloc: Global, choice: &Choice) -> Result<bool, OutOfMemory>
+        requires { matches self.old.program self.old.state.memory choice.now ≡ true }
+        ensures fired { IfOk result (λ is. is ≡ has_fired self.old.state choice.now) }
+        ensures same { self.new ≡ self.old }
+    {
+        self.index.take_in(alloc, self.store.journal())?;
+        is_fired(
+            &self.program,
+            &self.store,
+            &mut self.index,
+            choice,
+            &mut self.binds,
+        )
+    }
+
+    /// Why no further claim of the choice may stand, if none may.
+    fn crowded(&self, choice: &Choice) -> Option<ClaimRefusal>
+        ensures { result ≡ crowding self.now choice.now }
+    {
+        if let Some(number) = self.claims.of_choice(choice) {
+            return Some(ClaimRefusal::Claimed { number });
+        }
+        if self.claims.is_full() {
+            return Some(ClaimRefusal::Full {
+                given: self.claims.given(),
+                standing: self.claims.len() as u64,
+            });
+        }
+        None
+    }
+
     /// The journal of a run that goes on no more.
     pub fn into_journal(self) -> Journal
         ensures entries { result.entries ≡ self.state.entries }
@@ -165,6 +291,7 @@ impl Core {
             &bench.memory,
             &self.store,
             &mut self.index,
+            &mut bench.binds,
         )
     }
 

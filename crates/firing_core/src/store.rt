@@ -1,7 +1,7 @@
 //! The elements of a run where they lie, and which of them are in working memory. Each lies once: those of
 //! the base there, and those that firings made in the journal.
 
-ghost use Rattle.std.specs.Prelude.{◌≡◌, ◌+◌, ◌*◌, ◌<◌, ◌≤◌, [], ◌∷◌, ◌++◌, IfOk, OnOk, length, option_map, slice_get};
+ghost use Rattle.std.specs.Prelude.{◌≡◌, ◌+◌, ◌*◌, ◌<◌, ◌≤◌, [], ◌∷◌, ◌++◌, IfOk, OnOk, length, option_map, option_to_list, slice_get};
 ghost use Rattle.std.specs.List.{AllByRecursion, range_with_len};
 ghost use Rattle.commit_journal.specs.Room.{FitsIn, room_for, room_without};
 ghost use Rattle.rule_base.specs.declared.element.Element.{Element};
@@ -9,7 +9,7 @@ ghost use Rattle.rule_base.specs.Effect.{removed_tags};
 ghost use Rattle.rule_base.specs.Memory.{Rises, element_at, tags_of};
 ghost use Rattle.rule_base.specs.Step.{born, entry_of, without};
 ghost use Rattle.rule_base.specs.Views.{element_in};
-ghost use Rattle.firing_core.specs.Store.{IsPlaceOf, IsSameBesideMemory, came, living, memory_in};
+ghost use Rattle.firing_core.specs.Store.{IsPlaceOf, IsSameBesideMemory, came, living, living_at, memory_in};
 
 use crate::tags::place_of;
 use commit_journal::{Journal, Room};
@@ -135,11 +135,30 @@ impl Store {
         }
     }
 
+    /// The places of the elements in working memory, in rising order of their tags, and among them some
+    /// of elements that have gone: ask `living`.
+    pub fn slots(&self) -> &[usize]
+        ensures { living_at self.now result.now ≡ memory_in self.now }
+    {
+        self.memory.slots()
+    }
+
+    /// The element at a place, if it is in working memory. It takes a constant time.
+    pub fn living(&self, place: usize) -> Option<ElementView<'_>>
+        ensures { option_to_list (option_map element_in result) ≡ living self.now place }
+    {
+        if self.memory.has(place) {
+            self.at(place)
+        } else {
+            None
+        }
+    }
+
     /// Adds the elements of the working memory to others, in rising order of their tags.
     pub fn add_to(&self, elements: &mut Elements) -> Result<(), OutOfMemory>
         ensures { OnOk result (elements.new ≡ elements.old ++ memory_in self.now) }
     {
-        for place in self.memory.slots() {
+        for place in self.slots() {
             self.add_living(*place, elements)?;
         }
         Ok(())
@@ -149,10 +168,8 @@ impl Store {
     fn add_living(&self, place: usize, elements: &mut Elements) -> Result<(), OutOfMemory>
         ensures { OnOk result (elements.new ≡ elements.old ++ living self.now place) }
     {
-        if self.memory.has(place) {
-            if let Some(element) = self.at(place) {
-                elements.push(element)?;
-            }
+        if let Some(element) = self.living(place) {
+            elements.push(element)?;
         }
         Ok(())
     }

@@ -1,9 +1,7 @@
 -- One slot more.
-use Rattle.std.proofs.Common.{◌≡◌, ◌++◌, append-nil, ap, ◌∙◌, subst, sym}
-use Rattle.std.specs.List.{filter}
+use Rattle.std.proofs.Common.{◌++◌, append-nil, ap, ◌∙◌, sym}
 use Rattle.std.proofs.lemmas.List.{take_all}
-use Rattle.working_memory.specs.Memory.{has_place}
-use Rattle.firing_core.specs.Store.{Stored, at_places, came}
+use Rattle.firing_core.specs.Store.{living_at}
 use Rattle.firing_core.proofs.StoredLemmas.{living_next}
 use Rattle.firing_core.proofs.store.Store.add_to.Goals as goal
 
@@ -19,7 +17,6 @@ pub returns : goal.returns
 returns c =
     let s = c.args.self.now in
     let slots = c.slots-place-items.result.now in
-    let left : filter (has_place s.places) slots ≡ s.places = subst (λ (s : Stored). filter (has_place s.places) slots ≡ s.places) c.self.view_is c.slots-place-items.ensures in
     c.loop-place.invariant
-    ∙ ap (λ ps. c.args.elements.now ++ at_places (came s.base s.entries) (filter (has_place s.places) ps)) (take_all c.loop-place.place-index slots c.loop-place-test.false)
-    ∙ ap (λ ps. c.args.elements.now ++ at_places (came s.base s.entries) ps) left
+    ∙ ap (λ ps. c.args.elements.now ++ living_at s ps) (take_all c.loop-place.place-index slots c.loop-place-test.false)
+    ∙ ap (λ es. c.args.elements.now ++ es) c.slots-place-items.ensures
