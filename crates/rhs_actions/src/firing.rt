@@ -27,8 +27,8 @@ pub fn fire(
     requires sound { IsSound program.now.value }
     requires there { rule < length program.now.value.rules }
     requires accepted { IsSome (bindings_with (rule_at program.now.value rule) elements) }
-    ensures ok { IfOk result (IsFiringOf (rule_at program.now.value rule) elements) }
-    ensures failed { IfErr result (IsRefusalOf (rule_at program.now.value rule) elements) }
+    ensures ok { IfOk result (IsFiringOf program.now.value rule elements) }
+    ensures failed { IfErr result (IsRefusalOf program.now.value rule elements) }
 {
     let program = Arc::try_clone(program)?;
     let mut binds = Binds::new(alloc, 0)?;

@@ -39,7 +39,7 @@ impl Delta {
         requires there { rule < length program.value.rules }
         requires is { effect_of (rule_at program.value rule) elements ≡ Ok effect }
         ensures { result ≡
-            record { rule = rule_at program.value rule; elements = elements; effect = effect } }
+            record { program = program.value; rule = rule; elements = elements; effect = effect } }
     {
         Delta {
             program,
@@ -49,9 +49,23 @@ impl Delta {
         }
     }
 
+    /// The program whose rule fires.
+    pub fn program(&self) -> &Arc<Program>
+        ensures { result.now.value ≡ self.now.program }
+    {
+        &self.program
+    }
+
+    /// The number of the rule that fires.
+    pub fn rule_number(&self) -> u32
+        ensures { result ≡ self.now.rule }
+    {
+        self.rule
+    }
+
     /// The rule that fires.
     pub fn rule(&self) -> &Rule
-        ensures { result.now ≡ self.now.rule }
+        ensures { result.now ≡ rule_at self.now.program self.now.rule }
     {
         &self.program.rules.as_slice()[self.rule as usize]
     }
@@ -110,7 +124,7 @@ impl Failed {
         requires is { effect_of (rule_at program.value rule) elements ≡
             Err (record { action = action; cause = cause }) }
         ensures { result ≡
-            record { rule = rule_at program.value rule; elements = elements; action = action; cause = cause } }
+            record { program = program.value; rule = rule; elements = elements; action = action; cause = cause } }
     {
         Failed {
             program,
@@ -121,9 +135,23 @@ impl Failed {
         }
     }
 
+    /// The program whose rule fires.
+    pub fn program(&self) -> &Arc<Program>
+        ensures { result.now.value ≡ self.now.program }
+    {
+        &self.program
+    }
+
+    /// The number of the rule that fires.
+    pub fn rule_number(&self) -> u32
+        ensures { result ≡ self.now.rule }
+    {
+        self.rule
+    }
+
     /// The rule that fires.
     pub fn rule(&self) -> &Rule
-        ensures { result.now ≡ self.now.rule }
+        ensures { result.now ≡ rule_at self.now.program self.now.rule }
     {
         &self.program.rules.as_slice()[self.rule as usize]
     }
