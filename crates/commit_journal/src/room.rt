@@ -23,7 +23,7 @@ pub struct Room {
 
 impl Room {
     /// No room.
-    pub(crate) fn none() -> Room
+    pub fn none() -> Room
         ensures { result ≡ record { entries = 0; tags = 0; gone = 0; elements = 0; values = 0; pieces = 0 } }
     {
         Room {
@@ -86,7 +86,7 @@ impl Room {
     }
 
     /// What is left once so much is taken.
-    pub(crate) fn without(self, taken: Room) -> Room
+    pub fn without(self, taken: Room) -> Room
         requires { FitsIn taken self }
         ensures { result ≡ room_without self taken }
     {
