@@ -141,13 +141,13 @@ each_fails p [] none = tt
 each_fails p (x ∷ xs) none = let both = nothing_first p x xs (p x) refl none in (both.0, each_fails p xs both.1)
 
 -- values that are the same are equal, and so are elements
-same_value-Decides : (a b : Value) → Decides (same_value a b) (a ≡ b)
+pub same_value-Decides : (a b : Value) → Decides (same_value a b) (a ≡ b)
 same_value-Decides (Int a) (Int b) = (λ is. ap Int ((Decides-int_eq a b).0 is), λ same. (Decides-int_eq a b).1 (let inner : a ≡ b = cc in inner))
 same_value-Decides (Sym a) (Sym b) = (λ is. ap Sym ((Decides-eqb a b).0 is), λ same. (Decides-eqb a b).1 (let inner : a ≡ b = cc in inner))
 same_value-Decides (Int a) (Sym b) = (λ is. absurd (let wrong : ⊥ = cc in wrong), λ same. absurd (let wrong : ⊥ = cc in wrong))
 same_value-Decides (Sym a) (Int b) = (λ is. absurd (let wrong : ⊥ = cc in wrong), λ same. absurd (let wrong : ⊥ = cc in wrong))
 
-same_element-equal : (e other : Element) → same_element e other ≡ true → e ≡ other
+pub same_element-equal : (e other : Element) → same_element e other ≡ true → e ≡ other
 same_element-equal e other is =
     let outer = both_hold ((e.tag == other.tag) && (e.class == other.class)) (pointwise same_value e.values other.values) is in
     let inner = both_hold (e.tag == other.tag) (e.class == other.class) outer.0 in

@@ -45,7 +45,7 @@ pub record Stands (k : CoreState) (number : ℕ) (claim : Claim) : Type 0 where
   pub there : Among claim k.claims
   pub is : claim.number ≡ number
 
-Stands-numbered : (k : CoreState) (number : ℕ) (claim : Claim) → claim_numbered k number ≡ Some claim → Stands k number claim
+pub Stands-numbered : (k : CoreState) (number : ℕ) (claim : Claim) → claim_numbered k number ≡ Some claim → Stands k number claim
 Stands-numbered k number claim at =
     let found = IsFound-find (λ (c : Claim). c.number == number) k.claims claim at in
     record { there = found.there; is = (Decides-eqb claim.number number).0 found.passes }
@@ -60,7 +60,7 @@ lawful_without k number lawful = record {
   few_given = lawful.few_given;
 }
 
-IsLawful-dropped : (k : CoreState) (number : ℕ) → IsLawful k → IsLawful (without_claim k number)
+pub IsLawful-dropped : (k : CoreState) (number : ℕ) → IsLawful k → IsLawful (without_claim k number)
 IsLawful-dropped k number lawful = record {
   sound = lawful.sound;
   began = lawful.began;
@@ -100,7 +100,7 @@ AreApart-two k one other differ (inr (inr later)) = record {
 }
 
 -- the machine's state is one
-IsState-lawful : (k : CoreState) → IsLawful k → IsState (sizes_of k.program.classes) k.state
+pub IsState-lawful : (k : CoreState) → IsLawful k → IsState (sizes_of k.program.classes) k.state
 IsState-lawful k lawful =
     IsState-run k.program (start k.base) (choices_of k.state.entries) k.state lawful.sound (IsState-start k.program k.base lawful.began) lawful.ran
 
@@ -182,7 +182,7 @@ pub record IsOfClaim (after : CoreState → Claim → Option CoreState) (k : Cor
   pub going : IsGoing k
   pub gives : after k claim ≡ Some last
 
-IsOfClaim-some : (after : CoreState → Claim → Option CoreState) (k : CoreState) (number : ℕ) (last : CoreState) → IsLawful k → unless_ended after k number ≡ Some last → IsOfClaim after k number last
+pub IsOfClaim-some : (after : CoreState → Claim → Option CoreState) (k : CoreState) (number : ℕ) (last : CoreState) → IsLawful k → unless_ended after k number ≡ Some last → IsOfClaim after k number last
 IsOfClaim-some after k number last lawful some =
     let gave = Gave-some (option_and_then (λ (claim : Claim). only_if (is_none (ended k)) claim) (claim_numbered k number)) (after k) last some in
     let found = Gave-some (claim_numbered k number) (λ (claim : Claim). only_if (is_none (ended k)) claim) gave.first gave.is in

@@ -20,11 +20,14 @@ use Rattle.firing_core.specs.Firing.{Fires}
 use Rattle.firing_core.specs.Kept.{IsKept}
 use Rattle.firing_core.specs.Store.{Stored, at_places, came, memory_in}
 use Rattle.firing_core.proofs.FieldLemmas.{sized-born, step-fields}
+use Rattle.firing_core.proofs.KeptLemmas.{no_room}
 use Rattle.firing_core.proofs.LawfulLemmas.{IsKept-step}
 
 -- the fields before a firing that may come, its choice, and its effect
 pub record MayFireFields (before : Inside) (c : Choice) (done : Effect) : Type 0 where
   pub holds : HoldsKept before
+  pub alone : before.claims.claims ≡ []
+  pub unfailed : before.fault ≡ None
   pub within : count (state_in before) < before.budget
   pub may : may_fire before.program.value (state_in before) c ≡ true
   pub effect : effect_of before.program.value (memory_in before.store) c ≡ Some (Ok done)
@@ -89,9 +92,12 @@ HoldsKept-fired before reserved new halted c done may is halts =
     let entries_are = entries_after old reserved new c done is in
     let base_is = is.base ∙ is.same_base in
     record {
-      kept = subst IsKept (sym (same_core before new halted base_is)) (IsKept-step k c (state_in (record before { store = new; halted = halted })) may.holds.kept may.within steps);
+      kept = subst IsKept (sym (same_core before new halted base_is)) (IsKept-step k c (state_in (record before { store = new; halted = halted })) may.holds.kept may.alone may.unfailed may.within steps);
       index = index_after old.base new.base old.entries new.entries (entry_of old.next c done) before.index base_is entries_are may.holds.index;
       splits = may.holds.splits;
+      most = may.holds.most;
+      room = (no_room before.claims.claims before.most new.room new.spare may.alone).0;
+      spare = (no_room before.claims.claims before.most new.room new.spare may.alone).1;
       footprints = may.holds.footprints;
       born = subst (λ es. AllByRecursion (HasSize sizes) (born_in es)) (sym entries_are)
           (subst (AllByRecursion (HasSize sizes)) (sym (born_in-push old.entries old.next c done)) (Each-append (HasSize sizes) (born_in old.entries) (born old.next done.changes) may.holds.born (sized-born k c done may.holds.kept may.may may.effect)));

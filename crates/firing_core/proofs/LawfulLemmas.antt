@@ -32,13 +32,11 @@ IsKept-start program base budget sound began few = record {
   state = IsState-start program base began;
   next_is_low = omega (arith, began.few);
   refraction = refl;
-  no_claims = refl;
-  no_fault = refl;
 }
 
--- a core whose budget is not used up is lawful and ready again after a step
-pub IsKept-step : (k : CoreState) (c : Choice) (after : State) → IsKept k → count k.state < k.budget → step k.program k.state c ≡ Some after → IsKept (record k { state = after })
-IsKept-step k c after kept within steps =
+-- a core without claims whose budget is not used up, and no firing of which has failed, is lawful and ready again after a step
+pub IsKept-step : (k : CoreState) (c : Choice) (after : State) → IsKept k → k.claims ≡ [] → k.fault ≡ None → count k.state < k.budget → step k.program k.state c ≡ Some after → IsKept (record k { state = after })
+IsKept-step k c after kept alone unfailed within steps =
     let lawful = kept.lawful in
     let made = IsStep-from_step k.program k.state c after steps in
     let keeps = IsKeepingStep-sound k.program k.state c after lawful.sound kept.state steps in
@@ -54,14 +52,12 @@ IsKept-step k c after kept within steps =
         ran = ap (run k.program (start k.base)) choices_are ∙ run-append k.program (start k.base) (choices_of k.state.entries) (c ∷ []) ∙ ap (option_and_then (λ (s : State). run k.program s (c ∷ []))) lawful.ran ∙ last;
         within = omega (arith, counted);
         few = lawful.few;
-        claims = AreLawful-none (record k { state = after }) kept.no_claims lawful.claims.few_given;
-        fault = no_fault (record k { state = after }) kept.no_fault;
+        claims = AreLawful-none (record k { state = after }) alone lawful.claims.few_given;
+        fault = no_fault (record k { state = after }) unfailed;
       };
       state = keeps.state;
       next_is_low = omega (arith, counted, keeps.near, kept.next_is_low);
       refraction = refraction-step k.program k.state c after steps ∙ kept.refraction;
-      no_claims = kept.no_claims;
-      no_fault = kept.no_fault;
     }
 
 -- a rule of the program has at most 64 actions

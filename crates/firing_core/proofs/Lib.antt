@@ -22,3 +22,6 @@ pub mod FittingLemmas
 pub mod ClaimLemmas
 pub mod GoneLemmas
 pub mod EventLemmas
+-- claims in the core's fields
+pub mod GrantLemmas
+pub mod KeptLemmas

@@ -1,5 +1,5 @@
 -- How a core's fields give what contracts see of it.
-use Rattle.std.specs.Prelude.{◌≡◌, ◌≤◌, List, [], length, take}
+use Rattle.std.specs.Prelude.{◌≡◌, ◌≤◌, ◌*◌, List, [], length, take}
 use Rattle.std.specs.List.{AllByRecursion}
 use Rattle.std.specs.Option.{option_map_or}
 use Rattle.rule_base.specs.declared.base.Base.{Base}
@@ -11,6 +11,8 @@ use Rattle.rule_base.specs.Sound.{sizes_of}
 use Rattle.rule_base.specs.State.{State, choices_of, start}
 use Rattle.rule_base.specs.Run.{run}
 use Rattle.commit_journal.specs.Entries.{born_in}
+use Rattle.commit_journal.specs.ProgramRoom.{room_of}
+use Rattle.commit_journal.specs.Room.{FitsIn, room_times}
 use Rattle.refraction_index.specs.Firings.{Index, Tells}
 use Rattle.firing_core.specs.declared.machine.Core.TheInside.{Inside}
 use Rattle.interference.specs.Splits.{splits_of}
@@ -58,5 +60,9 @@ pub record HoldsKept (core : Inside) : Type 0 where
   pub splits : core.splits ≡ splits_of core.program.value
   -- each claim stands with its footprint
   pub footprints : core.claims.footprints ≡ claimed_footprints (core_in core)
+  -- there is room for the commit of each claim that stands
+  pub most : core.most ≡ room_of core.program.value
+  pub room : FitsIn (room_times (length core.claims.claims) core.most) core.store.room
+  pub spare : length core.claims.claims * core.most.elements ≤ core.store.spare
   -- each element that was ever made has a size
   pub born : AllByRecursion (HasSize (sizes_of core.program.value.classes)) (born_in core.store.entries)

@@ -1,5 +1,5 @@
 -- What a core keeps beside being lawful, so that its next firing can be proved.
-use Rattle.std.specs.Prelude.{◌≡◌, ◌+◌, ◌*◌, ◌^◌, ◌≤◌, [], None}
+use Rattle.std.specs.Prelude.{◌≡◌, ◌+◌, ◌*◌, ◌^◌, ◌≤◌}
 use Rattle.rule_base.specs.Sound.{sizes_of}
 use Rattle.rule_base.specs.State.{IsState, count}
 use Rattle.firing_core.specs.CoreState.{CoreState}
@@ -13,6 +13,3 @@ pub record IsKept (k : CoreState) : Type 0 where
   pub next_is_low : k.state.next ≤ 2 ^ 63 + 64 * count k.state
   -- the state has the refraction of the base
   pub refraction : k.state.refraction ≡ k.base.refraction
-  -- the core hands out no claims yet
-  pub no_claims : k.claims ≡ []
-  pub no_fault : k.fault ≡ None

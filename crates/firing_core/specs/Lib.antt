@@ -3,6 +3,9 @@ pub mod CoreState
 pub mod Store
 pub mod Refusals
 pub mod Events
+pub mod Grants
+pub mod Clear
+pub mod Answers
 pub mod Lawful
 pub mod FinishedRun
 -- laws of events
@@ -14,5 +17,6 @@ pub mod Firing
 pub mod Turn
 pub mod Kept
 pub mod CoreFields
+pub mod GrantFields
 -- worked examples of events
 pub mod Examples

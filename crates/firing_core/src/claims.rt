@@ -1,5 +1,9 @@
 //! Why a candidate can't be claimed, and what happens to a core: as plain data.
 
+ghost use Rattle.std.specs.Prelude.{◌≡◌};
+ghost use Rattle.firing_core.specs.declared.claims.ClaimRefusal.TheVariants as refusal;
+
+use ops_text::OutOfMemory;
 use rule_base::{Busy, Candidate, Choice, FaultCause};
 
 /// A firing that failed: its choice, its first failing action, from 1, and the cause.
@@ -34,6 +38,27 @@ pub enum ClaimRefusal {
     /// 2^64 - 1 claims were given a number, or 4,095 stand: so many were, and so many do.
     Full { given: u64, standing: u64 },
     OutOfMemory,
+}
+
+impl From<OutOfMemory> for ClaimRefusal {
+    fn from(_: OutOfMemory) -> ClaimRefusal
+        ensures { result ≡ refusal.OutOfMemory }
+    {
+        ClaimRefusal::OutOfMemory
+    }
+}
+
+/// No such claim stands: none has the grant's number and its choice.
+#[derive(Clone, Copy, Debug, PartialEq, Eq)]
+pub struct Foreign;
+
+/// Why a firing can't end a claim.
+#[derive(Clone, Copy, Debug, PartialEq, Eq)]
+pub enum CommitRefusal {
+    /// No claim with the grant's number and choice stands, or the firing is of another rule or of other
+    /// elements than the claim.
+    Foreign,
+    Ended(How),
 }
 
 /// What happens to a core: a candidate is claimed, or the claim with this number is committed, fails or

@@ -1,6 +1,8 @@
 //! The core: a program, the base that a run begins from, and how far the run has come.
 
-ghost use Rattle.std.specs.Prelude.{◌≡◌, ◌+◌, ◌*◌, ◌<◌, ◌≤◌, ◌↔◌, [], true, None, Ok, Some, IfErr, IfOk, IsTrue, OnOk, OnErr, length};
+ghost use Rattle.std.specs.Prelude.{◌≡◌, ◌+◌, ◌*◌, ◌<◌, ◌≤◌, ◌↔◌, [], true, None, Ok, Err, Some, IfErr, IfOk, IsTrue, OnOk, OnErr, is_ok, is_some, length};
+ghost use Rattle.std.specs.Option.{option_copied};
+ghost use Rattle.std.specs.Result.{result_err};
 ghost use Rattle.rule_base.specs.Sound.{IsSound};
 ghost use Rattle.rule_base.specs.State.{count, start};
 ghost use Rattle.rule_base.specs.Step.{effect_of, may_fire, matches};
@@ -12,23 +14,31 @@ ghost use Rattle.firing_core.specs.CoreState.{IsRunOf, ended, looked};
 ghost use Rattle.rule_base.specs.State.{has_fired};
 ghost use Rattle.firing_core.specs.Refusals.{busy_lock, claim_refusal, crowding};
 ghost use Rattle.firing_core.specs.Lawful.{IsLawful};
+ghost use Rattle.firing_core.specs.declared.claims.Event.TheVariants as event;
+ghost use Rattle.firing_core.specs.Answers.{TellsWhy, after_ending, claim_of, commit_refusal, is_granted, turned_away};
+ghost use Rattle.firing_core.specs.Clear.{IsClear, IsNotBusy};
+ghost use Rattle.firing_core.specs.Events.{apply, with_claim, without_claim, without_claims};
 ghost use Rattle.firing_core.specs.Firing.{IsNext, Fires, TellsFault};
 
-use crate::claims::{ClaimRefusal, FaultSeen, How};
+use crate::claims::{ClaimRefusal, CommitRefusal, FaultSeen, Foreign, How};
 use crate::failing::failing_condition;
 use crate::fired::is_fired;
 use crate::gone::gone_tag;
+use crate::grant::Grant;
 use crate::instantiations::first_unfired;
+use crate::same::same_elements;
 use crate::store::Store;
 use crate::workbench::Workbench;
-use commit_journal::{Journal, Room};
+use commit_journal::{Journal, Room, room_of_program};
 use element_tests::Binds;
 use interference::{Splits, footprint};
 use ops_text::OutOfMemory;
 use refraction_index::RefractionIndex;
-use rhs_actions::{Effect, EffectRefusal, fire_into};
-use rule_base::{Base, Busy, Candidate, Choice, Elements, Mode, Program, Steps};
-use standing_claims::Standing;
+use rhs_actions::{Delta, Effect, EffectRefusal, Failed, fire_into};
+use rule_base::{
+    Base, Busy, Candidate, Choice, Elements, FaultCause, Mode, Program, Refraction, Steps,
+};
+use standing_claims::{Claim, Standing};
 use std::alloc::Global;
 use std::marker::Model;
 use std::sync::Arc;
@@ -44,6 +54,8 @@ pub struct Core {
     halted: bool,
     fault: Option<FaultSeen>,
     claims: Standing,
+    /// What the commit of any claim may need: the store has room for so much for each that stands.
+    most: Room,
     splits: Splits,
     /// When choices last fired. Firings don't fill it: whoever asks has it take in the journal first.
     index: RefractionIndex,
@@ -81,9 +93,12 @@ impl Core {
         requires budget { IsBudget budget }
         ensures run { IfOk result (IsRunOf program.value base budget) }
         ensures begins { IfOk result (λ core. core.state ≡ start base) }
+        ensures claims { IfOk result (λ core. (core.claims ≡ []) × (core.given ≡ 0)) }
+        ensures fault { IfOk result (λ core. core.fault ≡ None) }
     {
         let binds = Binds::new(alloc, 0)?;
         let splits = Splits::new(alloc, &program)?;
+        let most = room_of_program(&program)?;
         let index = RefractionIndex::new(alloc, base.fired.as_slice())?;
         let store = Store::new(alloc, base)?;
         Ok(Core {
@@ -93,6 +108,7 @@ impl Core {
             halted: false,
             fault: None,
             claims: Standing::new(alloc),
+            most,
             splits,
             index,
             binds,
@@ -136,6 +152,20 @@ impl Core {
         ensures next { result.now.next ≡ self.now.state.next }
     {
         self.store.journal()
+    }
+
+    /// When a choice that has fired may fire again, as the base says.
+    pub fn refraction(&self) -> Refraction
+        ensures { result ≡ self.now.state.refraction }
+    {
+        self.store.base().refraction
+    }
+
+    /// The fault of a firing, where there was one.
+    pub fn fault_seen(&self) -> Option<&FaultSeen>
+        ensures { option_copied result ≡ self.now.fault }
+    {
+        self.fault.as_ref()
     }
 
     /// The program that the core runs.
@@ -185,7 +215,7 @@ impl Core {
     }
 
     /// Why a candidate can't be claimed, if it can't: the first of the reasons, in their order. `room` then
-    /// has the candidate's footprint where no lock is busy.
+    /// has the candidate's footprint.
     pub fn refusal(
         &mut self,
         alloc: Global,
@@ -194,11 +224,25 @@ impl Core {
     ) -> Result<Option<ClaimRefusal>, OutOfMemory>
         requires { Fits self.old.program candidate.now }
         ensures refusal { IfOk result (λ refusal. refusal ≡ claim_refusal self.old candidate.now) }
+        ensures room { OnOk result (room.new.items ≡ footprint self.old.program candidate.now) }
         ensures same { self.new ≡ self.old }
     {
         if let Some(busy) = self.busy(candidate, room)? {
             return Ok(Some(ClaimRefusal::Busy(busy)));
         }
+        self.refusal_but_busy(alloc, candidate)
+    }
+
+    /// The same, where no lock is busy.
+    fn refusal_but_busy(
+        &mut self,
+        alloc: Global,
+        candidate: &Candidate,
+    ) -> Result<Option<ClaimRefusal>, OutOfMemory>
+        requires { busy_lock self.old candidate.now ≡ None }
+        ensures refusal { IfOk result (λ refusal. refusal ≡ claim_refusal self.old candidate.now) }
+        ensures same { self.new ≡ self.old }
+    {
         if let Some(how) = self.ended() {
             return Ok(Some(ClaimRefusal::Ended(how)));
         }
@@ -247,6 +291,232 @@ impl Core {
             });
         }
         None
+    }
+
+    /// Claims a candidate, so that its right-hand side can be evaluated away from the core: its choice
+    /// stays in the conflict set and unfired until the claim ends. The room that its commit needs is made
+    /// here. A refusal tells the first of its reasons, in their order.
+    pub fn claim(&mut self, alloc: Global, candidate: &Candidate) -> Result<Grant, ClaimRefusal>
+        requires fits { Fits self.old.program candidate.now }
+        ensures claimed { OnOk result
+            (apply self.old (event.Claimed candidate.now) ≡ Some self.new) }
+        ensures grant { IfOk result (λ grant. grant ≡ record {
+          program = self.old.program;
+          number = self.old.given + 1;
+          candidate = candidate.now;
+        }) }
+        ensures refused { IfErr result (TellsWhy self.old candidate.now) }
+        ensures same { OnErr result (self.new ≡ self.old) }
+    {
+        let mut room = Vec::new(alloc);
+        match self.refusal(alloc, candidate, &mut room)? {
+            Some(refusal) => Err(refusal),
+            None => Ok(self.grant(alloc, candidate, room)?),
+        }
+    }
+
+    /// Claims a candidate whose footprint is known to clash with no claim that stands, so that no lock is
+    /// busy and none is looked up.
+    pub fn claim_clear(
+        &mut self,
+        alloc: Global,
+        candidate: &Candidate,
+    ) -> Result<Grant, ClaimRefusal>
+        requires fits { Fits self.old.program candidate.now }
+        requires clear { IsClear self.old candidate.now }
+        ensures claimed { OnOk result
+            (apply self.old (event.Claimed candidate.now) ≡ Some self.new) }
+        ensures grant { IfOk result (λ grant. grant ≡ record {
+          program = self.old.program;
+          number = self.old.given + 1;
+          candidate = candidate.now;
+        }) }
+        ensures refused { IfErr result (TellsWhy self.old candidate.now) }
+        ensures not_busy { IfErr result IsNotBusy }
+        ensures same { OnErr result (self.new ≡ self.old) }
+    {
+        let mut room = Vec::new(alloc);
+        footprint(&self.program, &self.splits, candidate, &mut room)?;
+        match self.refusal_but_busy(alloc, candidate)? {
+            Some(refusal) => Err(refusal),
+            None => Ok(self.grant(alloc, candidate, room)?),
+        }
+    }
+
+    /// Makes the claim of a candidate that nothing refuses.
+    fn grant(
+        &mut self,
+        alloc: Global,
+        candidate: &Candidate,
+        footprint: Vec<(u32, Mode)>,
+    ) -> Result<Grant, OutOfMemory>
+        requires fits { Fits self.old.program candidate.now }
+        requires free { claim_refusal self.old candidate.now ≡ None }
+        requires footprint { footprint.items ≡ footprint self.old.program candidate.now }
+        ensures claimed { OnOk result (self.new ≡ with_claim self.old candidate.now) }
+        ensures grant { IfOk result (λ grant. grant ≡ record {
+          program = self.old.program;
+          number = self.old.given + 1;
+          candidate = candidate.now;
+        }) }
+        ensures same { OnErr result (self.new ≡ self.old) }
+    {
+        let program = Arc::try_clone(&self.program)?;
+        let claimed = candidate.copy(alloc)?;
+        let granted = candidate.copy(alloc)?;
+        let needed = self.most.times(self.claims.len() + 1)?;
+        self.store.reserve(needed)?;
+        self.claims.reserve()?;
+        // From here on nothing fails.
+        let number = self.claims.add(claimed, footprint);
+        Ok(Grant::new(program, number, granted))
+    }
+
+    /// Commits the firing of a claim, which then ends, and answers the place of its entry in the journal,
+    /// which counts from 0. Nothing is matched again, and no memory is taken.
+    pub fn commit<L: Ledger>(
+        &mut self,
+        grant: Grant,
+        delta: Delta,
+        steps: &mut Steps<L>,
+    ) -> Result<u64, CommitRefusal>
+        requires program { delta.program ≡ self.old.program }
+        ensures refusal { result_err result
+            ≡ commit_refusal self.old grant delta.rule delta.elements }
+        ensures place { IfOk result (λ place. place ≡ count self.old.state) }
+        ensures after { after_ending self.old grant.number (event.Committed grant.number)
+            (result_err result) ≡ Some self.new }
+        ensures steps { steps.new ≤ steps.old + 4 * length delta.effect.changes + 4 }
+    {
+        match self.turn_away(&grant, delta.rule_number(), delta.elements()) {
+            Some(refusal) => Err(refusal),
+            None => Ok(self.commit_claim(&grant, delta.effect(), steps)),
+        }
+    }
+
+    /// Ends the core by the failure of a claim's firing. The claim ends, and no memory is taken.
+    pub fn fault(&mut self, grant: Grant, failed: Failed) -> Result<(), CommitRefusal>
+        requires program { failed.program ≡ self.old.program }
+        ensures refusal { result_err result
+            ≡ commit_refusal self.old grant failed.rule failed.elements }
+        ensures after { after_ending self.old grant.number (event.Faulted grant.number)
+            (result_err result) ≡ Some self.new }
+    {
+        match self.turn_away(&grant, failed.rule_number(), failed.elements()) {
+            Some(refusal) => Err(refusal),
+            None => {
+                self.keep_fault(grant, failed.action(), failed.cause());
+                Ok(())
+            }
+        }
+    }
+
+    /// Takes the claim of a grant away, also where the core has ended. It takes no memory.
+    pub fn drop_claim(&mut self, grant: Grant) -> Result<(), Foreign>
+        ensures stands { is_ok result ≡ is_some (claim_of self.old grant) }
+        ensures dropped { OnOk result
+            (apply self.old (event.Dropped grant.number) ≡ Some self.new) }
+        ensures same { OnErr result (self.new ≡ self.old) }
+    {
+        if self.claim_of(&grant).is_none() {
+            return Err(Foreign);
+        }
+        self.take_away(grant.number());
+        Ok(())
+    }
+
+    /// Takes every claim away, so that numbers are given from 1 on again. It takes no memory.
+    pub fn drop_all(&mut self)
+        ensures { self.new ≡ without_claims self.old }
+    {
+        self.claims.clear();
+    }
+
+    /// The claim of a grant, if it stands.
+    fn claim_of(&self, grant: &Grant) -> Option<&Claim>
+        ensures { option_copied result ≡ claim_of self.now grant.now }
+    {
+        match self.claims.with_number(grant.number()) {
+            Some(claim) if claim.candidate.choice.same(grant.choice()) => Some(claim),
+            _ => None,
+        }
+    }
+
+    /// Whether the claim of a grant stands and is for a firing of this rule on these elements.
+    fn is_granted(&self, grant: &Grant, rule: u32, elements: &Elements) -> bool
+        ensures { result ≡ is_granted self.now grant.now rule elements.now }
+    {
+        match self.claim_of(grant) {
+            Some(claim) => {
+                rule == claim.candidate.choice.rule
+                    && same_elements(elements, &claim.candidate.elements)
+            }
+            None => false,
+        }
+    }
+
+    /// Why such a firing can't end the claim of a grant, if it can't. Where the core has ended, the claim
+    /// is dropped.
+    fn turn_away(&mut self, grant: &Grant, rule: u32, elements: &Elements) -> Option<CommitRefusal>
+        ensures refusal { result ≡ commit_refusal self.old grant.now rule elements.now }
+        ensures after { self.new ≡ turned_away self.old grant.now.number result }
+    {
+        if !self.is_granted(grant, rule, elements) {
+            return Some(CommitRefusal::Foreign);
+        }
+        match self.ended() {
+            Some(how) => {
+                self.take_away(grant.number());
+                Some(CommitRefusal::Ended(how))
+            }
+            None => None,
+        }
+    }
+
+    /// Commits the firing of a claim that stands, with its effect.
+    fn commit_claim<L: Ledger>(
+        &mut self,
+        grant: &Grant,
+        effect: &Effect,
+        steps: &mut Steps<L>,
+    ) -> u64
+        requires going { ended self.old ≡ None }
+        requires stands { is_some (claim_of self.old grant.now) ≡ true }
+        requires effect { effect_of self.old.program self.old.state.memory grant.now.candidate.choice ≡ Some (Ok effect.now) }
+        ensures place { result ≡ count self.old.state }
+        ensures after { apply self.old (event.Committed grant.now.number) ≡ Some self.new }
+        ensures steps { steps.new ≤ steps.old + 4 * length effect.now.changes + 4 }
+    {
+        let place = self.count();
+        let choice = grant.choice();
+        self.halted = effect.halts();
+        self.store
+            .commit(choice.rule, choice.tags.as_slice(), effect, steps);
+        self.claims.remove(grant.number());
+        place
+    }
+
+    /// Keeps the failure of the firing of a claim that stands.
+    fn keep_fault(&mut self, grant: Grant, action: u32, cause: FaultCause)
+        requires going { ended self.old ≡ None }
+        requires stands { is_some (claim_of self.old grant) ≡ true }
+        requires fails { effect_of self.old.program self.old.state.memory grant.candidate.choice
+            ≡ Some (Err (record { action = action; cause = cause })) }
+        ensures { apply self.old (event.Faulted grant.number) ≡ Some self.new }
+    {
+        self.claims.remove(grant.number());
+        self.fault = Some(FaultSeen {
+            choice: grant.into_choice(),
+            action,
+            cause,
+        });
+    }
+
+    /// Takes the claim with this number away, if it stands.
+    fn take_away(&mut self, number: u64)
+        ensures { self.new ≡ without_claim self.old number }
+    {
+        self.claims.remove(number);
     }
 
     /// The journal of a run that goes on no more.
