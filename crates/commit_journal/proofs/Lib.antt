@@ -8,7 +8,7 @@ pub mod BesideLemmas
 pub mod EntryLemmas
 pub mod RoomLemmas
 pub mod PushLemmas
-pub mod RuleRoomLemmas
+pub mod ProgramRoomLemmas
 pub mod CommitLemmas
 -- the text of a journal
 pub mod JournalTextLemmas

@@ -1,11 +1,11 @@
 -- How rooms add and fit, and the room that is left once an entry is taken in.
-use Rattle.std.proofs.Common.{◌≡◌, ℕ, ◌+◌, ◌^◌, ◌<◌, ◌≤◌, ◌∙◌, ap, arith, length}
+use Rattle.std.proofs.Common.{◌≡◌, ℕ, ◌+◌, ◌*◌, ◌^◌, ◌<◌, ◌≤◌, zero, suc, ◌∙◌, ap, arith, length, mul-le-mul_right, suc-mul}
 use Rattle.rule_base.specs.declared.change.Piece.{Piece}
 use Rattle.commit_journal.specs.declared.room.Room.{Room}
 use Rattle.commit_journal.specs.Lists.{Kept}
 use Rattle.commit_journal.specs.Newborns.{Made}
 use Rattle.commit_journal.specs.Flat.{HaveRoom}
-use Rattle.commit_journal.specs.Room.{FitsIn, room_plus, room_without}
+use Rattle.commit_journal.specs.Room.{FitsIn, larger_room, room_plus, room_times, room_without}
 
 -- lists have less room by one list with so many items at most
 abbrev pub HasLeft : {A : Type 0} → Kept A → Kept A → ℕ → Type 0
@@ -101,4 +101,55 @@ FitsIn-room_without a b room fits = record {
   elements = omega (arith, fits.elements);
   values = omega (arith, fits.values);
   pieces = omega (arith, fits.pieces);
+}
+
+-- what holds either room holds the first one
+pub FitsIn-larger_room : (a b : Room) → FitsIn a (larger_room a b)
+FitsIn-larger_room a b = record { entries = omega arith; tags = omega arith; gone = omega arith; elements = omega arith; values = omega arith; pieces = omega arith }
+
+-- and the second one
+pub FitsIn-larger_room_second : (a b : Room) → FitsIn b (larger_room a b)
+FitsIn-larger_room_second a b = record { entries = omega arith; tags = omega arith; gone = omega arith; elements = omega arith; values = omega arith; pieces = omega arith }
+
+-- one time more is the room once more
+times-next : (n x : ℕ) → (n + 1) * x ≡ n * x + x
+times-next n x =
+    let next : n + 1 ≡ suc n = omega arith in
+    ap (λ k. k * x) next ∙ suc-mul n x
+
+pub room_times-next : (n : ℕ) (room : Room) → room_times (n + 1) room ≡ room_plus (room_times n room) room
+room_times-next n room = same_room (room_times (n + 1) room) (room_plus (room_times n room) room) (times-next n room.entries) (times-next n room.tags) (times-next n room.gone) (times-next n room.elements) (times-next n room.values) (times-next n room.pieces)
+
+-- fewer times a room need no more than more times
+pub FitsIn-room_times-less : (n m : ℕ) (room whole : Room) → n ≤ m → FitsIn (room_times m room) whole → FitsIn (room_times n room) whole
+FitsIn-room_times-less n m room whole fewer fits = record {
+  entries = omega (arith, mul-le-mul_right room.entries fewer, fits.entries);
+  tags = omega (arith, mul-le-mul_right room.tags fewer, fits.tags);
+  gone = omega (arith, mul-le-mul_right room.gone fewer, fits.gone);
+  elements = omega (arith, mul-le-mul_right room.elements fewer, fits.elements);
+  values = omega (arith, mul-le-mul_right room.values fewer, fits.values);
+  pieces = omega (arith, mul-le-mul_right room.pieces fewer, fits.pieces);
+}
+
+-- where what needs no more than one of them is taken, one time less is left
+pub FitsIn-room_times-without : (n : ℕ) (need room whole : Room) → FitsIn need room → FitsIn (room_times (n + 1) room) whole → FitsIn (room_times n room) (room_without whole need)
+FitsIn-room_times-without n need room whole small fits = record {
+  entries = omega (arith, times-next n room.entries, small.entries, fits.entries);
+  tags = omega (arith, times-next n room.tags, small.tags, fits.tags);
+  gone = omega (arith, times-next n room.gone, small.gone, fits.gone);
+  elements = omega (arith, times-next n room.elements, small.elements, fits.elements);
+  values = omega (arith, times-next n room.values, small.values, fits.values);
+  pieces = omega (arith, times-next n room.pieces, small.pieces, fits.pieces);
+}
+
+-- and where there is one of them, that fits itself
+pub FitsIn-room_times-one : (n : ℕ) (need room whole : Room) → FitsIn need room → 0 < n → FitsIn (room_times n room) whole → FitsIn need whole
+FitsIn-room_times-one zero need room whole small some fits = absurd (let wrong : ⊥ = omega (arith, some) in wrong)
+FitsIn-room_times-one (suc n) need room whole small some fits = record {
+  entries = omega (arith, suc-mul n room.entries, small.entries, fits.entries);
+  tags = omega (arith, suc-mul n room.tags, small.tags, fits.tags);
+  gone = omega (arith, suc-mul n room.gone, small.gone, fits.gone);
+  elements = omega (arith, suc-mul n room.elements, small.elements, fits.elements);
+  values = omega (arith, suc-mul n room.values, small.values, fits.values);
+  pieces = omega (arith, suc-mul n room.pieces, small.pieces, fits.pieces);
 }

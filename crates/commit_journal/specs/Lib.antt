@@ -4,7 +4,7 @@ pub mod EntryViews
 pub mod Room
 -- laws of the entries of firings, and the room that they need
 pub mod Commits
-pub mod RuleRoom
+pub mod ProgramRoom
 -- its text
 pub mod JournalText
 -- how its arrays keep it

@@ -1,5 +1,5 @@
 -- Room: what a journal can take in without memory.
-use Rattle.std.specs.Prelude.{ℕ, ◌+◌, ◌-◌, ◌≤◌, List, length, max}
+use Rattle.std.specs.Prelude.{ℕ, ◌+◌, ◌-◌, ◌*◌, ◌≤◌, List, length, max}
 use Rattle.rule_base.specs.declared.change.Piece.{Piece}
 use Rattle.rule_base.specs.Memory.{Memory, value_count}
 use Rattle.commit_journal.specs.declared.room.Room.{Room}
@@ -26,6 +26,17 @@ room_plus a b = record {
   elements = a.elements + b.elements;
   values = a.values + b.values;
   pieces = a.pieces + b.pieces;
+}
+
+-- so many times a room
+abbrev pub room_times : ℕ → Room → Room
+room_times count room = record {
+  entries = count * room.entries;
+  tags = count * room.tags;
+  gone = count * room.gone;
+  elements = count * room.elements;
+  values = count * room.values;
+  pieces = count * room.pieces;
 }
 
 -- the room that is left once so much of it is taken

@@ -1,7 +1,7 @@
 //! Laws of the definitions. Each function here does nothing: its contract is the law.
 
 ghost use Rattle.commit_journal.specs.Commits.{BornAreConsecutive, CommitsAreEntries};
-ghost use Rattle.commit_journal.specs.RuleRoom.{EntriesFitInRoomOfRule};
+ghost use Rattle.commit_journal.specs.ProgramRoom.{EntriesFitInRoomOfProgram};
 
 /// The entry that a firing adds to the state of the machine is one that a journal takes in.
 pub fn commits_are_entries()
@@ -9,8 +9,8 @@ pub fn commits_are_entries()
     ensures tags { BornAreConsecutive }
 {}
 
-/// What a rule and the elements that it fires on tell of the room is enough for the entry of the firing,
-/// whatever its actions give. The rule need not be sound.
-pub fn entries_fit_in_room_of_rule()
-    ensures { EntriesFitInRoomOfRule }
+/// What a program tells of the room is enough for the entry of any firing, whatever its actions give. The
+/// program need not be sound.
+pub fn entries_fit_in_room_of_program()
+    ensures { EntriesFitInRoomOfProgram }
 {}

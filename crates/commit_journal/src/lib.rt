@@ -9,13 +9,13 @@ pub mod laws;
 mod lists;
 mod newborns;
 mod page;
+mod program_room;
 mod room;
-mod rule_room;
 mod text;
 
 pub use entry_view::EntryView;
 pub use journal::Journal;
 pub use page::lay_out;
+pub use program_room::room_of;
 pub use room::Room;
-pub use rule_room::room_of;
 pub use text::journal_text;

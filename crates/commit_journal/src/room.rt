@@ -1,7 +1,7 @@
 //! Room: what a journal can take in without memory.
 
-ghost use Rattle.std.specs.Prelude.{◌≡◌, ℕ, ◌+◌, IfOk, length};
-ghost use Rattle.commit_journal.specs.Room.{FitsIn, larger_room, room_for, room_plus, room_without};
+ghost use Rattle.std.specs.Prelude.{◌≡◌, ℕ, ◌+◌, ◌*◌, IfOk, length};
+ghost use Rattle.commit_journal.specs.Room.{FitsIn, larger_room, room_for, room_plus, room_times, room_without};
 ghost use Rattle.rule_base.specs.Effect.{removed_tags};
 ghost use Rattle.rule_base.specs.Memory.{value_count};
 ghost use Rattle.rule_base.specs.Step.{born};
@@ -85,6 +85,20 @@ impl Room {
         })
     }
 
+    /// So many times this room. It fails only where so much can't be counted.
+    pub fn times(self, count: usize) -> Result<Room, OutOfMemory>
+        ensures { IfOk result (λ room. room ≡ room_times count self) }
+    {
+        Ok(Room {
+            entries: product(count, self.entries)?,
+            tags: product(count, self.tags)?,
+            gone: product(count, self.gone)?,
+            elements: product(count, self.elements)?,
+            values: product(count, self.values)?,
+            pieces: product(count, self.pieces)?,
+        })
+    }
+
     /// What is left once so much is taken.
     pub fn without(self, taken: Room) -> Room
         requires { FitsIn taken self }
@@ -120,6 +134,13 @@ fn sum(one: usize, other: usize) -> Result<usize, OutOfMemory>
     ensures { IfOk result (λ sum. sum ≡ one + other) }
 {
     one.checked_add(other).ok_or(OutOfMemory)
+}
+
+/// The product, where it can be counted.
+fn product(one: usize, other: usize) -> Result<usize, OutOfMemory>
+    ensures { IfOk result (λ product. product ≡ one * other) }
+{
+    one.checked_mul(other).ok_or(OutOfMemory)
 }
 
 /// How many values the elements have together.

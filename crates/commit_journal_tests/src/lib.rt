@@ -2,6 +2,6 @@
 #![tactic(auto)]
 
 #[cfg(test)]
-mod rule_rooms;
+mod program_rooms;
 #[cfg(test)]
 mod two_entries;

@@ -1,6 +1,0 @@
--- The law is the lemma on effects.
-use Rattle.commit_journal.proofs.RuleRoomLemmas.{fits}
-use Rattle.commit_journal.proofs.laws.entries_fit_in_room_of_rule.Goals as goal
-
-pub returns : goal.returns
-returns c = fits
