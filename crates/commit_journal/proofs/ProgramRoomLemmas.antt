@@ -1,4 +1,4 @@
--- What the actions of a rule add to the entry of its firing, and that no rule of a program adds more than the program's room.
+-- What the actions of a rule add to the entry of its firing, and that no firing of a program needs more than its room.
 use Rattle.std.proofs.Common.{◌≡◌, ℕ, ◌+◌, ◌<◌, ◌≤◌, List, [], ◌∷◌, ◌++◌, length, drop, Bool, true, false, if◌then◌else◌, Option, Some, None, Result, Ok, Err, fold, replicate, slice_get, slice_set, suc, zero, map, refl, sym, ◌∙◌, ap, subst, arith, drop-cons, length-append, length-set, get_or}
 use Rattle.std.specs.List.{AllByRecursion, sum_by}
 use Rattle.std.proofs.lemmas.List.{append-nil, length-replicate}

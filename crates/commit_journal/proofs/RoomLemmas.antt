@@ -1,4 +1,4 @@
--- How rooms add and fit, and the room that is left once an entry is taken in.
+-- How rooms add, multiply and fit, and the room that is left once an entry is taken in.
 use Rattle.std.proofs.Common.{◌≡◌, ℕ, ◌+◌, ◌*◌, ◌^◌, ◌<◌, ◌≤◌, zero, suc, ◌∙◌, ap, arith, length, mul-le-mul_right, suc-mul}
 use Rattle.rule_base.specs.declared.change.Piece.{Piece}
 use Rattle.commit_journal.specs.declared.room.Room.{Room}

@@ -9,8 +9,8 @@ pub fn commits_are_entries()
     ensures tags { BornAreConsecutive }
 {}
 
-/// What a program tells of the room is enough for the entry of any firing, whatever its actions give. The
-/// program need not be sound.
+/// What a program tells of the room is enough for the entry of any firing, whatever its actions give.
+/// The program need not be sound.
 pub fn entries_fit_in_room_of_program()
     ensures { EntriesFitInRoomOfProgram }
 {}

@@ -8,9 +8,9 @@ use crate::Room;
 use ops_text::OutOfMemory;
 use rule_base::{Action, Class, Program, Rule};
 
-/// What the entry of a firing of any rule of the program needs at most, whatever elements it fires on. It
-/// takes a step for each rule, each action and each class, and no memory. It fails only where so much
-/// can't be counted.
+/// What the entry of a firing of any rule of the program needs at most, whatever elements it fires on.
+/// It takes a step for each rule, each action and each class, and no memory. It fails only where so
+/// much can't be counted.
 pub fn room_of(program: &Program) -> Result<Room, OutOfMemory>
     ensures { IfOk result (λ room. room ≡ room_of program.now) }
 {
