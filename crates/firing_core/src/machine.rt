@@ -29,7 +29,7 @@ use crate::instantiations::first_unfired;
 use crate::same::same_elements;
 use crate::store::Store;
 use crate::workbench::Workbench;
-use commit_journal::{Journal, Room, room_of_program};
+use commit_journal::{Journal, Room, room_of};
 use element_tests::Binds;
 use interference::{Splits, footprint};
 use ops_text::OutOfMemory;
@@ -98,7 +98,7 @@ impl Core {
     {
         let binds = Binds::new(alloc, 0)?;
         let splits = Splits::new(alloc, &program)?;
-        let most = room_of_program(&program)?;
+        let most = room_of(&program)?;
         let index = RefractionIndex::new(alloc, base.fired.as_slice())?;
         let store = Store::new(alloc, base)?;
         Ok(Core {
