@@ -96,16 +96,16 @@ pub IsGoing-ended : (k : CoreState) → IsLawful k → is_none (ended k) ≡ tru
 IsGoing-ended k lawful none = going_by k lawful (there_is_none (ended k) none)
 
 -- what none of the refusals refuses
-record IsClaimable (k : CoreState) (candidate : Candidate) : Type 0 where
-  free : busy_lock k candidate ≡ None
-  going : ended k ≡ None
-  there : gone_tag k.state.memory candidate.elements ≡ None
-  matched : failing_condition k.program k.state.memory candidate.choice ≡ None
-  unfired : has_fired k.state candidate.choice ≡ false
-  unclaimed : claim_of_choice k candidate.choice ≡ None
-  room : is_full k ≡ false
+pub record IsClaimable (k : CoreState) (candidate : Candidate) : Type 0 where
+  pub free : busy_lock k candidate ≡ None
+  pub going : ended k ≡ None
+  pub there : gone_tag k.state.memory candidate.elements ≡ None
+  pub matched : failing_condition k.program k.state.memory candidate.choice ≡ None
+  pub unfired : has_fired k.state candidate.choice ≡ false
+  pub unclaimed : claim_of_choice k candidate.choice ≡ None
+  pub room : is_full k ≡ false
 
-IsClaimable-none : (k : CoreState) (candidate : Candidate) → claim_refusal k candidate ≡ None → IsClaimable k candidate
+pub IsClaimable-none : (k : CoreState) (candidate : Candidate) → claim_refusal k candidate ≡ None → IsClaimable k candidate
 IsClaimable-none k candidate none =
     let claimed = option_map (λ (claim : Claim). refusal.Claimed claim.number) (claim_of_choice k candidate.choice) in
     let full = only_if (is_full k) (refusal.Full k.given (length k.claims)) in
@@ -203,7 +203,7 @@ each_mapped : {X Y : Type 0} (P : Y → Type 0) (f : X → Y) (xs : List X) → 
 each_mapped P f [] each = tt
 each_mapped P f (x ∷ xs) each = (each.0, each_mapped P f xs each.1)
 
-length-map_claims : {X Y : Type 0} (f : X → Y) (xs : List X) → length (map f xs) ≡ length xs
+pub length-map_claims : {X Y : Type 0} (f : X → Y) (xs : List X) → length (map f xs) ≡ length xs
 length-map_claims f [] = refl
 length-map_claims f (x ∷ xs) = omega (arith, length-map_claims f xs)
 

@@ -1,5 +1,5 @@
 -- What a firing leaves of a core's fields.
-use Rattle.std.proofs.Common.{◌≡◌, ℕ, ◌+◌, ◌<◌, ◌≤◌, List, [], ◌∷◌, ◌++◌, ◌||◌, Bool, true, length, Ok, Some, refl, sym, ◌∙◌, ap, subst, take, suc, zero, arith, length-append}
+use Rattle.std.proofs.Common.{◌≡◌, ℕ, ◌+◌, ◌<◌, ◌≤◌, List, [], ◌∷◌, ◌++◌, ◌||◌, Bool, true, length, None, Ok, Some, refl, sym, ◌∙◌, ap, subst, take, suc, zero, arith, length-append}
 use Rattle.std.specs.List.{AllByRecursion, filter_map}
 use Rattle.std.proofs.lemmas.Grind.{flat_map-append}
 use Rattle.rule_base.specs.declared.base.Base.{Base}
@@ -69,7 +69,7 @@ take_within zero xs ys le = refl
 take_within (suc n) [] ys le = absurd (omega (arith, le))
 take_within (suc n) (x ∷ xs) ys le = ap (λ rest. x ∷ rest) (take_within n xs ys (omega (arith, le)))
 
-index_after : (old new : Base) (entries after : List Entry) (entry : Entry) (index : Index) → new ≡ old → after ≡ entries ++ entry ∷ [] → IsIndexOf old.fired entries index → IsIndexOf new.fired after index
+pub index_after : (old new : Base) (entries after : List Entry) (entry : Entry) (index : Index) → new ≡ old → after ≡ entries ++ entry ∷ [] → IsIndexOf old.fired entries index → IsIndexOf new.fired after index
 index_after old new entries after entry index base_is is kept = record {
   within = omega (arith, kept.within, ap length is, length-append entries (entry ∷ []));
   tells =
@@ -78,7 +78,7 @@ index_after old new entries after entry index base_is is kept = record {
 }
 
 -- what was born in one entry more
-born_in-push : (entries : List Entry) (next : ℕ) (c : Choice) (done : Effect) → born_in (entries ++ entry_of next c done ∷ []) ≡ born_in entries ++ born next done.changes
+pub born_in-push : (entries : List Entry) (next : ℕ) (c : Choice) (done : Effect) → born_in (entries ++ entry_of next c done ∷ []) ≡ born_in entries ++ born next done.changes
 born_in-push entries next c done =
     flat_map-append (λ (e : Entry). filter_map born_by e.changes) entries (entry_of next c done ∷ []) ∙ ap (λ es. born_in entries ++ es) (born_in-entry next c done)
 
@@ -99,6 +99,7 @@ HoldsKept-fired before reserved new halted c done may is halts =
       room = (no_room before.claims.claims before.most new.room new.spare may.alone).0;
       spare = (no_room before.claims.claims before.most new.room new.spare may.alone).1;
       footprints = may.holds.footprints;
+      fitting = may.holds.fitting;
       born = subst (λ es. AllByRecursion (HasSize sizes) (born_in es)) (sym entries_are)
           (subst (AllByRecursion (HasSize sizes)) (sym (born_in-push old.entries old.next c done)) (Each-append (HasSize sizes) (born_in old.entries) (born old.next done.changes) may.holds.born (sized-born k c done may.holds.kept may.may may.effect)));
     }

@@ -1,9 +1,10 @@
 -- The claim of a grant: what it is, and what comes of the events that end it.
 use lib.Pointwise.{pointwise}
-use Rattle.std.proofs.Common.{◌≡◌, ℕ, ◌<◌, List, [], ◌∷◌, Bool, true, false, ◌&&◌, not, Option, Some, None, Ok, Err, Result, is_none, is_some, option_and_then, option_map, slice_get, ◌==◌, get_or, refl, sym, ◌∙◌, ap, subst}
+use Rattle.std.proofs.Common.{◌≡◌, ℕ, ◌<◌, List, [], ◌∷◌, Bool, true, false, ◌&&◌, not, Option, Some, None, Ok, Err, Result, is_none, is_some, length, option_and_then, option_map, slice_get, ◌==◌, get_or, refl, sym, ◌∙◌, ap, subst}
 use Rattle.std.specs.Bool.{Decides}
 use Rattle.std.specs.Option.{option_map_or}
 use Rattle.std.proofs.lemmas.Bool.Decides.{Decides-eqb}
+use Rattle.std.proofs.lemmas.Option.{slice_get-get_or}
 use Rattle.std.proofs.lemmas.Slice.Eq.{slice_eq-Decides}
 use Rattle.rule_base.specs.declared.element.Element.{Element}
 use Rattle.rule_base.specs.declared.instantiation.Choice.{Choice}
@@ -16,7 +17,7 @@ use Rattle.rule_base.specs.State.{State, has_fired, same_choice}
 use Rattle.rule_base.specs.Step.{effect_of, matches, may_fire, step}
 use Rattle.rule_base.proofs.AmongLemmas.{Among, IsFound-find}
 use Rattle.rule_base.proofs.ChoiceLemmas.{same_choice-equal}
-use Rattle.rhs_actions.specs.Outcomes.{rule_at}
+use Rattle.rhs_actions.specs.Outcomes.{no_rule, rule_at}
 use Rattle.interference.specs.PhantomLaw.{IsReady}
 use Rattle.interference.proofs.ListLemmas.{Each-among}
 use Rattle.interference.proofs.MatchedLemmas.{matches-listed}
@@ -159,8 +160,10 @@ faulted k grant claim failure is going fails = event_of after_fault k grant.numb
   where
     seen_with : Choice → FaultSeen
     seen_with c = record { choice = c; action = failure.action; cause = failure.cause }
+
     same : (c : Choice) (n : ℕ) → c ≡ grant.candidate.choice → n ≡ grant.number → record (without_claim k n) { fault = Some (seen_with c) } ≡ with_fault k grant failure
     same c n choice number = λ i. record (without_claim k (number i)) { fault = Some (seen_with (choice i)) }
+
     gives : after_fault k claim ≡ Some (with_fault k grant failure)
     gives =
         let fails_too : effect_of k.program k.state.memory claim.candidate.choice ≡ Some (Err failure) = ap (effect_of k.program k.state.memory) is.choice ∙ fails in
@@ -192,3 +195,10 @@ let_in k grant rule elements false how granted going none = absurd (let wrong : 
 
 pub IsLetIn-none : (k : CoreState) (grant : Granted) (rule : ℕ) (elements : List Element) → commit_refusal k grant rule elements ≡ None → IsLetIn k grant rule elements
 IsLetIn-none k grant rule elements none = let_in k grant rule elements (is_granted k grant rule elements) (ended k) refl refl none
+
+-- what a firing of the claim's rule comes to, where it is let in
+pub effect_of-let_in : (k : CoreState) (grant : Granted) (program : Program) (rule : ℕ) (elements : List Element) (r : Result Effect Failure) → IsLawful k → program ≡ k.program → commit_refusal k grant rule elements ≡ None → rule < length program.rules → effect (rule_at program rule) elements ≡ r → effect_of k.program k.state.memory grant.candidate.choice ≡ Some r
+effect_of-let_in k grant program rule elements r lawful same none there comes =
+    let within : rule < length k.program.rules = subst (λ (p : Program). rule < length p.rules) same there in
+    effect_of-granted k grant rule elements r lawful (IsLetIn-none k grant rule elements none).granted (slice_get-get_or k.program.rules rule no_rule within)
+    (subst (λ (p : Program). effect (rule_at p rule) elements ≡ r) same comes)

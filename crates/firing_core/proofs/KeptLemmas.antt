@@ -1,7 +1,10 @@
 -- What a core's fields keep, and what they hold, where a claim has come or gone.
 use Rattle.std.proofs.Common.{◌≡◌, ℕ, ◌+◌, ◌*◌, ◌≤◌, List, [], ◌∷◌, ◌++◌, not, Some, length, map, ◌==◌, refl, sym, ◌∙◌, ap, subst, arith}
+use Rattle.std.specs.List.{AllByRecursion}
 use Rattle.std.proofs.Math.Nat.{mul-le-mul_right}
+use Rattle.rule_base.proofs.EachLemmas.{Each-filter}
 use Rattle.rule_base.specs.declared.lock.Mode.{Mode}
+use Rattle.rule_base.specs.Fits.{Fits}
 use Rattle.rule_base.specs.Sound.{sizes_of}
 use Rattle.rule_base.specs.State.{IsState, State, count}
 use Rattle.rule_base.specs.Step.{step}
@@ -42,6 +45,11 @@ footprints_left before left number holds is =
     let by : Claim → List (ℕ × Mode) = λ (claim : Claim). footprint before.program.value claim.candidate in
     is.footprints ∙ footprints_without-by before.claims number by holds.footprints ∙ ap (map by) (sym is.claims)
 
+pub fitting_left : (before : Inside) (left : Standing) (number : ℕ) → HoldsKept before → IsWithout before.claims left number → AllByRecursion (λ (claim : Claim). Fits before.program.value claim.candidate) left.claims
+fitting_left before left number holds is =
+    let fits : Claim → Type 0 = λ (claim : Claim). Fits before.program.value claim.candidate in
+    subst (AllByRecursion fits) (sym is.claims) (Each-filter fits (λ (claim : Claim). not (claim.number == number)) before.claims.claims holds.fitting)
+
 pub fewer_left : (old new : Standing) (number : ℕ) → IsWithout old new number → length new.claims ≤ length old.claims
 fewer_left old new number is = omega (arith, ap length is.claims, length-filter (λ (claim : Claim). not (claim.number == number)) old.claims)
 
@@ -58,6 +66,7 @@ HoldsKept-without before left number holds is =
       index = holds.index;
       splits = holds.splits;
       footprints = footprints_left before left number holds is;
+      fitting = fitting_left before left number holds is;
       most = holds.most;
       room = fits.0;
       spare = fits.1;
@@ -91,6 +100,7 @@ HoldsKept-none before left holds is =
       index = holds.index;
       splits = holds.splits;
       footprints = is.footprints ∙ sym (ap (map (λ (claim : Claim). footprint before.program.value claim.candidate)) is.claims);
+      fitting = subst (AllByRecursion (λ (claim : Claim). Fits before.program.value claim.candidate)) (sym is.claims) tt;
       most = holds.most;
       room = fits.0;
       spare = fits.1;

@@ -21,7 +21,12 @@ pub mod PairLemmas
 pub mod FittingLemmas
 pub mod ClaimLemmas
 pub mod GoneLemmas
+pub mod SameLemmas
 pub mod EventLemmas
 -- claims in the core's fields
 pub mod GrantLemmas
 pub mod KeptLemmas
+pub mod CommitClaimLemmas
+pub mod MakeClaimLemmas
+pub mod FaultClaimLemmas
+pub mod WhyLemmas

@@ -6,6 +6,7 @@ use Rattle.rule_base.specs.declared.base.Base.{Base}
 use Rattle.rule_base.specs.declared.entry.Entry.{Entry}
 use Rattle.rule_base.specs.declared.instantiation.Choice.{Choice}
 use Rattle.rule_base.specs.declared.program.Program.{Program}
+use Rattle.rule_base.specs.Fits.{Fits}
 use Rattle.rule_base.specs.Memory.{HasSize}
 use Rattle.rule_base.specs.Sound.{sizes_of}
 use Rattle.rule_base.specs.State.{State, choices_of, start}
@@ -16,6 +17,7 @@ use Rattle.commit_journal.specs.Room.{FitsIn, room_times}
 use Rattle.refraction_index.specs.Firings.{Index, Tells}
 use Rattle.firing_core.specs.declared.machine.Core.TheInside.{Inside}
 use Rattle.interference.specs.Splits.{splits_of}
+use Rattle.standing_claims.specs.declared.claim.Claim.{Claim}
 use Rattle.firing_core.specs.CoreState.{CoreState}
 use Rattle.firing_core.specs.Refusals.{claimed_footprints}
 use Rattle.firing_core.specs.Kept.{IsKept}
@@ -60,6 +62,8 @@ pub record HoldsKept (core : Inside) : Type 0 where
   pub splits : core.splits ≡ splits_of core.program.value
   -- each claim stands with its footprint
   pub footprints : core.claims.footprints ≡ claimed_footprints (core_in core)
+  -- each claim is of a candidate of the program
+  pub fitting : AllByRecursion (λ (claim : Claim). Fits core.program.value claim.candidate) core.claims.claims
   -- there is room for the commit of each claim that stands
   pub most : core.most ≡ room_of core.program.value
   pub room : FitsIn (room_times (length core.claims.claims) core.most) core.store.room

@@ -1,16 +1,17 @@
 -- One turn of a run: a choice to fire, or the ending.
-use Rattle.std.specs.Prelude.{◌≡◌, ◌<◌, true, Some, Ok}
+use Rattle.std.specs.Prelude.{◌≡◌, ◌<◌, true, None, Some, Ok}
 use Rattle.rule_base.specs.declared.instantiation.Choice.{Choice}
 use Rattle.rule_base.specs.Effect.{Effect}
 use Rattle.rule_base.specs.State.{count}
 use Rattle.rule_base.specs.Step.{effect_of, may_fire}
 use Rattle.rule_base.specs.Ending.{IsEnding}
-use Rattle.firing_core.specs.CoreState.{CoreState}
+use Rattle.firing_core.specs.CoreState.{CoreState, ended}
 use Rattle.firing_core.specs.declared.finishing.Turn.{Turn}
 use Rattle.firing_core.specs.declared.finishing.Turn.TheVariants.{Fire, End}
 
--- the core may fire the choice within its budget, with this effect
+-- the core hasn't ended and may fire the choice, with this effect
 pub record MayFire (k : CoreState) (done : Effect) (c : Choice) : Type 0 where
+  pub going : ended k ≡ None
   pub within : count k.state < k.budget
   pub may : may_fire k.program k.state c ≡ true
   pub effect : effect_of k.program k.state.memory c ≡ Some (Ok done)

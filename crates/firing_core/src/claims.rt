@@ -41,9 +41,9 @@ pub enum ClaimRefusal {
 }
 
 impl From<OutOfMemory> for ClaimRefusal {
-    fn from(_: OutOfMemory) -> ClaimRefusal
-        ensures { result ≡ refusal.OutOfMemory }
-    {
+    ghost from_gives = { λ _ told. told ≡ refusal.OutOfMemory };
+
+    fn from(_error: OutOfMemory) -> ClaimRefusal {
         ClaimRefusal::OutOfMemory
     }
 }

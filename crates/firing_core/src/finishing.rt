@@ -1,18 +1,21 @@
 //! Runs to their ending, on the caller's thread.
 
-ghost use Rattle.std.specs.Prelude.{◌≡◌, ◌<◌, ◌≤◌, true, false, IfOk, Ok, OnOk, Some};
+ghost use Rattle.std.specs.Prelude.{◌≡◌, [], true, IfOk, None, Ok, OnOk, Some};
 ghost use Rattle.rule_base.specs.Sound.{IsSound};
 ghost use Rattle.rule_base.specs.Base.{IsLawfulBase};
 ghost use Rattle.rule_base.specs.Ending.{IsBudget, IsEnding};
-ghost use Rattle.firing_core.specs.CoreState.{IsRunOf};
+ghost use Rattle.firing_core.specs.CoreState.{IsRunOf, ended};
+ghost use Rattle.firing_core.specs.declared.claims.How.{How};
+ghost use Rattle.firing_core.specs.declared.claims.How.TheVariants as how;
+ghost use Rattle.firing_core.specs.Events.{without_claims};
 ghost use Rattle.firing_core.specs.Lawful.{IsLawful};
 ghost use Rattle.firing_core.specs.FinishedRun.{GoesOn, IsFinishedRun};
-ghost use Rattle.rule_base.specs.State.{count};
 ghost use Rattle.rule_base.specs.Step.{effect_of, may_fire};
 ghost use Rattle.firing_core.specs.Firing.{Fires, IsLeft};
 ghost use Rattle.firing_core.specs.Turn.{IsTurn};
 
-use crate::Core;
+use crate::claims::How;
+use crate::machine::Core;
 use crate::workbench::Workbench;
 use ops_text::OutOfMemory;
 use rhs_actions::{Effect, EffectRefusal};
@@ -36,17 +39,19 @@ enum Turn {
     End(Ending),
 }
 
-/// Fires until the run has ended. Which of several choices fires first is left open. After want of
-/// memory the core is gone.
+/// Drops all claims and fires until the run has ended. Which of several choices fires first is left open.
+/// After want of memory the core is gone.
 pub fn finish(alloc: Global, core: Core) -> Result<Finished, OutOfMemory>
     ensures goes_on { IfOk result (λ finished. GoesOn core finished.core) }
+    ensures alone { IfOk result (λ finished. finished.core.claims ≡ []) }
     ensures ending { IfOk result
         (λ finished. IsEnding core.program core.budget finished.core.state finished.ending) }
     ensures lawful { IfOk result (λ finished. IsLawful finished.core) }
-    ensures halted_before { IfOk result
-        (λ finished. core.state.halted ≡ true → finished.core ≡ core) }
+    ensures ended_before { IfOk result
+        (λ finished. (how : How) → ended core ≡ Some how → finished.core ≡ without_claims core) }
 {
     let mut core = core;
+    core.drop_all();
     let mut bench = Workbench::new(alloc)?;
     loop {
         match next_turn(alloc, &mut core, &mut bench)? {
@@ -58,7 +63,8 @@ pub fn finish(alloc: Global, core: Core) -> Result<Finished, OutOfMemory>
 
 /// Fires a choice with its effect, where nobody counts the steps.
 fn fire_uncounted(core: &mut Core, choice: &Choice, effect: &Effect) -> Result<(), OutOfMemory>
-    requires within { count core.old.state < core.old.budget }
+    requires alone { core.old.claims ≡ [] }
+    requires going { ended core.old ≡ None }
     requires may_fire { may_fire core.old.program core.old.state choice.now ≡ true }
     requires effect { effect_of core.old.program core.old.state.memory choice.now ≡ Some (Ok effect.now) }
     ensures { OnOk result (Fires core.old core.new choice.now) }
@@ -73,7 +79,8 @@ fn fire_on<L: Ledger>(
     effect: &Effect,
     blank: Blank,
 ) -> Result<(), OutOfMemory>
-    requires within { count core.old.state < core.old.budget }
+    requires alone { core.old.claims ≡ [] }
+    requires going { ended core.old ≡ None }
     requires may_fire { may_fire core.old.program core.old.state choice.now ≡ true }
     requires effect { effect_of core.old.program core.old.state.memory choice.now ≡ Some (Ok effect.now) }
     requires name { blank.name ≡ L.name }
@@ -111,22 +118,49 @@ fn next_turn(alloc: Global, core: &mut Core, bench: &mut Workbench) -> Result<Tu
     ensures turn { IfOk result (IsTurn core.old bench.new.effect) }
     ensures same { core.new ≡ core.old }
 {
-    // Asked first, since every ending keeps within the budget.
-    let has_budget = core.has_budget();
-    if core.is_halted() {
-        return Ok(Turn::End(Ending::Halted));
+    match core.ended() {
+        Some(How::Halted) => Ok(Turn::End(Ending::Halted)),
+        Some(How::Budget) => at_budget(alloc, core, bench),
+        Some(How::Fault) => Ok(Turn::End(seen_fault(alloc, core)?)),
+        None => match core.find_unfired(alloc, bench)? {
+            Some(choice) => evaluated(core, choice, bench),
+            None => Ok(Turn::End(Ending::Quiet)),
+        },
     }
+}
+
+/// The ending of a core that has used up its budget.
+fn at_budget(alloc: Global, core: &mut Core, bench: &mut Workbench) -> Result<Turn, OutOfMemory>
+    requires { ended core.old ≡ Some how.Budget }
+    ensures turn { IfOk result (IsTurn core.old bench.new.effect) }
+    ensures same { core.new ≡ core.old }
+{
+    let n = core.count();
     match core.find_unfired(alloc, bench)? {
+        Some(_) => Ok(Turn::End(Ending::Spent { n })),
         None => Ok(Turn::End(Ending::Quiet)),
-        Some(choice) if has_budget => evaluated(core, choice, bench),
-        Some(_) => Ok(Turn::End(Ending::Spent { n: core.count() })),
+    }
+}
+
+/// The ending of a core that has kept a fault.
+fn seen_fault(alloc: Global, core: &Core) -> Result<Ending, OutOfMemory>
+    requires { ended core.now ≡ Some how.Fault }
+    ensures { IfOk result (IsEnding core.now.program core.now.budget core.now.state) }
+{
+    match core.fault_seen() {
+        Some(seen) => Ok(Ending::Fault {
+            choice: seen.choice.copy(alloc)?,
+            action: seen.action,
+            cause: seen.cause,
+        }),
+        None => Ok(Ending::Quiet),
     }
 }
 
 /// The firing of a choice that is left, or the fault of its right-hand side.
 fn evaluated(core: &Core, choice: Choice, bench: &mut Workbench) -> Result<Turn, OutOfMemory>
-    requires within { count core.now.state < core.now.budget }
-    requires going { core.now.state.halted ≡ false }
+    requires lawful { IsLawful core.now }
+    requires going { ended core.now ≡ None }
     requires left { IsLeft core.now choice }
     ensures { IfOk result (IsTurn core.now bench.new.effect) }
 {

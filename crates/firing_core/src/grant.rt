@@ -89,6 +89,7 @@ impl Grant {
     pub(crate) fn into_choice(self) -> Choice
         ensures { result ≡ self.candidate.choice }
     {
-        self.candidate.choice
+        let candidate = self.candidate;
+        candidate.choice
     }
 }

@@ -163,7 +163,8 @@ impl Core {
 
     /// The fault of a firing, where there was one.
     pub fn fault_seen(&self) -> Option<&FaultSeen>
-        ensures { option_copied result ≡ self.now.fault }
+        ensures value { option_copied result ≡ self.now.fault }
+        ensures lawful { IsLawful self.now }
     {
         self.fault.as_ref()
     }
@@ -185,7 +186,8 @@ impl Core {
 
     /// How the core has ended, if it has.
     pub fn ended(&self) -> Option<How>
-        ensures { result ≡ ended self.now }
+        ensures how { result ≡ ended self.now }
+        ensures lawful { IsLawful self.now }
     {
         if self.halted {
             Some(How::Halted)
@@ -239,7 +241,8 @@ impl Core {
         alloc: Global,
         candidate: &Candidate,
     ) -> Result<Option<ClaimRefusal>, OutOfMemory>
-        requires { busy_lock self.old candidate.now ≡ None }
+        requires fits { Fits self.old.program candidate.now }
+        requires free { busy_lock self.old candidate.now ≡ None }
         ensures refusal { IfOk result (λ refusal. refusal ≡ claim_refusal self.old candidate.now) }
         ensures same { self.new ≡ self.old }
     {
@@ -309,9 +312,9 @@ impl Core {
         ensures same { OnErr result (self.new ≡ self.old) }
     {
         let mut room = Vec::new(alloc);
-        match self.refusal(alloc, candidate, &mut room)? {
-            Some(refusal) => Err(refusal),
-            None => Ok(self.grant(alloc, candidate, room)?),
+        match self.busy(candidate, &mut room)? {
+            Some(busy) => Err(ClaimRefusal::Busy(busy)),
+            None => self.claim_asked(alloc, candidate, room),
         }
     }
 
@@ -337,9 +340,33 @@ impl Core {
     {
         let mut room = Vec::new(alloc);
         footprint(&self.program, &self.splits, candidate, &mut room)?;
+        self.claim_asked(alloc, candidate, room)
+    }
+
+    /// Claims a candidate that asks for these locks, none of which is busy.
+    fn claim_asked(
+        &mut self,
+        alloc: Global,
+        candidate: &Candidate,
+        asked: Vec<(u32, Mode)>,
+    ) -> Result<Grant, ClaimRefusal>
+        requires fits { Fits self.old.program candidate.now }
+        requires free { busy_lock self.old candidate.now ≡ None }
+        requires asked { asked.items ≡ footprint self.old.program candidate.now }
+        ensures claimed { OnOk result
+            (apply self.old (event.Claimed candidate.now) ≡ Some self.new) }
+        ensures grant { IfOk result (λ grant. grant ≡ record {
+          program = self.old.program;
+          number = self.old.given + 1;
+          candidate = candidate.now;
+        }) }
+        ensures refused { IfErr result (TellsWhy self.old candidate.now) }
+        ensures not_busy { IfErr result IsNotBusy }
+        ensures same { OnErr result (self.new ≡ self.old) }
+    {
         match self.refusal_but_busy(alloc, candidate)? {
             Some(refusal) => Err(refusal),
-            None => Ok(self.grant(alloc, candidate, room)?),
+            None => Ok(self.grant(alloc, candidate, asked)?),
         }
     }
 
@@ -348,11 +375,11 @@ impl Core {
         &mut self,
         alloc: Global,
         candidate: &Candidate,
-        footprint: Vec<(u32, Mode)>,
+        asked: Vec<(u32, Mode)>,
     ) -> Result<Grant, OutOfMemory>
         requires fits { Fits self.old.program candidate.now }
         requires free { claim_refusal self.old candidate.now ≡ None }
-        requires footprint { footprint.items ≡ footprint self.old.program candidate.now }
+        requires asked { asked.items ≡ footprint self.old.program candidate.now }
         ensures claimed { OnOk result (self.new ≡ with_claim self.old candidate.now) }
         ensures grant { IfOk result (λ grant. grant ≡ record {
           program = self.old.program;
@@ -368,7 +395,7 @@ impl Core {
         self.store.reserve(needed)?;
         self.claims.reserve()?;
         // From here on nothing fails.
-        let number = self.claims.add(claimed, footprint);
+        let number = self.claims.add(claimed, asked);
         Ok(Grant::new(program, number, granted))
     }
 
@@ -460,11 +487,13 @@ impl Core {
     fn turn_away(&mut self, grant: &Grant, rule: u32, elements: &Elements) -> Option<CommitRefusal>
         ensures refusal { result ≡ commit_refusal self.old grant.now rule elements.now }
         ensures after { self.new ≡ turned_away self.old grant.now.number result }
+        ensures lawful { IsLawful self.old }
     {
+        let ended = self.ended();
         if !self.is_granted(grant, rule, elements) {
             return Some(CommitRefusal::Foreign);
         }
-        match self.ended() {
+        match ended {
             Some(how) => {
                 self.take_away(grant.number());
                 Some(CommitRefusal::Ended(how))
@@ -527,21 +556,6 @@ impl Core {
         self.store.into_journal()
     }
 
-    /// Whether a firing has halted the run.
-    pub(crate) fn is_halted(&self) -> bool
-        ensures { result ≡ self.now.state.halted }
-    {
-        self.halted
-    }
-
-    /// Whether a further firing is within the budget.
-    pub(crate) fn has_budget(&self) -> bool
-        ensures fewer { IsTrue result ↔ (count self.now.state < self.now.budget) }
-        ensures within { count self.now.state ≤ self.now.budget }
-    {
-        self.count() < self.budget
-    }
-
     /// The first choice of the conflict set that has not fired, or none where all have. It matches
     /// every rule anew against the whole memory, of which it lays a copy on the bench.
     pub(crate) fn find_unfired(
@@ -583,8 +597,8 @@ impl Core {
     }
 
     /// Fires a choice with its effect, which is one step of the machine, and answers the place of its
-    /// entry in the journal, which counts from 0. The caller knows that the choice may fire, so nothing
-    /// is matched again. It takes memory only where the journal has to grow, and after want of it all
+    /// entry in the journal, which counts from 0. The caller knows that no claim stands and that the choice
+    /// may fire, so nothing is matched again and no lock is taken. It takes memory only where the journal has to grow, and after want of it all
     /// is as before.
     pub(crate) fn fire<L: Ledger>(
         &mut self,
@@ -592,7 +606,8 @@ impl Core {
         effect: &Effect,
         steps: &mut Steps<L>,
     ) -> Result<u64, OutOfMemory>
-        requires within { count self.old.state < self.old.budget }
+        requires alone { self.old.claims ≡ [] }
+        requires going { ended self.old ≡ None }
         requires may_fire { may_fire self.old.program self.old.state choice.now ≡ true }
         requires effect { effect_of self.old.program self.old.state.memory choice.now ≡ Some (Ok effect.now) }
         ensures fires { OnOk result (Fires self.old self.new choice.now) }

@@ -1,9 +1,13 @@
--- Each firing goes on from the core before it, and there is none after a halt.
-use Rattle.std.proofs.Common.{arith, subst}
-use Rattle.firing_core.specs.CoreState.{CoreState}
+-- Each firing goes on from the core before it, and there is none after the end.
+use Rattle.std.proofs.Common.{◌≡◌, Option, None, Some, ap, arith, subst, ◌∙◌}
+use Rattle.firing_core.specs.CoreState.{CoreState, ended}
+use Rattle.firing_core.specs.declared.claims.How.{How}
 use Rattle.firing_core.specs.Firing.{Fires}
-use Rattle.firing_core.proofs.FiringLemmas.{GoesOn-fires, count-fires, halted_fires_nothing}
+use Rattle.firing_core.proofs.FiringLemmas.{GoesOn-fires, count-fires}
 use Rattle.firing_core.proofs.finishing.finish.Goals as goal
+
+not_both : (o : Option How) (how : How) → o ≡ None → o ≡ Some how → ⊥
+not_both o how none some = let wrong : ⊥ = cc in wrong
 
 pub loop-bench-smaller : goal.loop-bench-smaller
 loop-bench-smaller c =
@@ -19,5 +23,9 @@ loop-bench-preserved c =
     let fires = subst (λ (k : CoreState). Fires k after c.in-Fire.choice) c.in_ok-choice.ensures.same c.in_ok-fire_uncounted-in-Fire.ensures in
     record {
       goes_on = GoesOn-fires _ _ _ _ c.loop-bench.invariant.goes_on fires;
-      halted_before = λ halted. absurd (halted_fires_nothing c.loop-bench.core.program c.loop-bench.core.state c.in-Fire.choice (rw (c.loop-bench.invariant.halted_before halted) halted) turn.may);
+      alone = fires.claims.0 ∙ c.loop-bench.invariant.alone;
+      ended_before = λ how before. absurd (not_both (ended c.loop-bench.core) how turn.going (ap ended (c.loop-bench.invariant.ended_before how before) ∙ before));
     }
+
+pub returns-in-End-clause-ended_before : goal.returns-in-End-clause-ended_before
+returns-in-End-clause-ended_before c = λ how before. c.in_ok-choice.ensures.same ∙ c.loop-bench.invariant.ended_before how before
