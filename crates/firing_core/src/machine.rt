@@ -10,7 +10,7 @@ ghost use Rattle.rule_base.specs.Fits.{Fits};
 ghost use Rattle.interference.specs.Footprint.{footprint};
 ghost use Rattle.firing_core.specs.CoreState.{IsRunOf, ended, looked};
 ghost use Rattle.rule_base.specs.State.{has_fired};
-ghost use Rattle.firing_core.specs.Refusals.{busy_lock, claim_refusal, crowding};
+ghost use Rattle.firing_core.specs.Refusals.{busy_lock, claim_refusal, crowding, failing_condition};
 ghost use Rattle.firing_core.specs.Lawful.{IsLawful};
 ghost use Rattle.firing_core.specs.Firing.{IsNext, Fires, TellsFault};
 
@@ -18,6 +18,7 @@ use crate::claims::{ClaimRefusal, FaultSeen, How};
 use crate::failing::failing_condition;
 use crate::fired::is_fired;
 use crate::gone::gone_tag;
+use crate::grouped::Grouped;
 use crate::instantiations::first_unfired;
 use crate::store::Store;
 use crate::workbench::Workbench;
@@ -47,6 +48,8 @@ pub struct Core {
     splits: Splits,
     /// When choices last fired. Firings don't fill it: whoever asks has it take in the journal first.
     index: RefractionIndex,
+    /// The elements by the values that negated condition elements ask for. Firings don't fill it either.
+    grouped: Grouped,
     /// Room for the bindings of a match.
     binds: Binds,
 }
@@ -84,6 +87,7 @@ impl Core {
     {
         let binds = Binds::new(alloc, 0)?;
         let splits = Splits::new(alloc, &program)?;
+        let grouped = Grouped::new(alloc, &program)?;
         let index = RefractionIndex::new(alloc, base.fired.as_slice())?;
         let store = Store::new(alloc, base)?;
         Ok(Core {
@@ -95,6 +99,7 @@ impl Core {
             claims: Standing::new(alloc),
             splits,
             index,
+            grouped,
             binds,
         })
     }
@@ -206,14 +211,30 @@ impl Core {
             return Ok(Some(ClaimRefusal::Gone { tag }));
         }
         let choice = &candidate.choice;
-        let failing = failing_condition(&self.program, &self.store, choice, &mut self.binds)?;
-        if let Some(condition) = failing {
+        if let Some(condition) = self.failing(alloc, choice)? {
             return Ok(Some(ClaimRefusal::Unmatched { condition }));
         }
         if self.has_fired(alloc, choice)? {
             return Ok(Some(ClaimRefusal::Fired));
         }
         Ok(self.crowded(choice))
+    }
+
+    /// The number of the first condition element of the choice's rule that fails, from 1, if one does. It
+    /// has the groups take in the elements that came since they were last asked.
+    fn failing(&mut self, alloc: Global, choice: &Choice) -> Result<Option<u32>, OutOfMemory>
+        ensures failing { IfOk result (λ number. number
+            ≡ failing_condition self.old.program self.old.state.memory choice.now) }
+        ensures same { self.new ≡ self.old }
+    {
+        self.grouped.take_in(alloc, &self.store)?;
+        failing_condition(
+            &self.program,
+            &self.store,
+            &mut self.grouped,
+            choice,
+            &mut self.binds,
+        )
     }
 
     /// Whether a choice that matches has fired. It is one look-up under `Once`, once the index has taken in
