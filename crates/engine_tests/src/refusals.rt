@@ -90,6 +90,12 @@ fn a_refusal_has_the_first_reason(rt: HostRuntime) -> Result<(), Fail> {
     let changes = "(literalize a x)(make a ^x 1)(p r (a ^x 1) --> (modify 1 ^x 2))";
     let halts = "(literalize a x)(make a ^x 1)(p r (a) --> (halt))";
     let many = "(literalize a x)(make a ^x 1)(make a ^x 2)(p r (a) -->)";
+    let apart =
+        "(literalize a x)(literalize b y)(make a ^x 1)(make b ^y 2)(p r (a ^x <v>) -(b ^y <v>) -->)";
+    let frees =
+        "(literalize a x)(literalize b y)(make a ^x 1)(make b ^y 1)(p r (a ^x <v>) -(b ^y <v>) -->)(p s (b) --> (remove 1))";
+    let fills =
+        "(literalize a x)(literalize b y)(make a ^x 1)(make b ^y 2)(p r (a) -(b ^y 1) --> (make b ^y 1))";
     let gone = "Some(Gone { tag: 1 }), then Some(Gone { tag: 1 })";
     let never = "Some(Gone { tag: 2000 }), then Some(Gone { tag: 2000 })";
     let made = "Some(Gone { tag: 2 }), then Some(Unmatched { condition: 1 })";
@@ -103,6 +109,20 @@ fn a_refusal_has_the_first_reason(rt: HostRuntime) -> Result<(), Fail> {
         (takes, 10, (0, 1, 1), "None, then Some(Gone { tag: 1 })"),
         (changes, 10, (0, 2, 2), made),
         (keeps, 10, (0, 1, 1), second),
+        // the elements with one value block: of another value, one that goes, and one that comes
+        (apart, 10, (0, 1, 1), "None, then Some(Fired)"),
+        (
+            frees,
+            10,
+            (0, 1, 1),
+            "Some(Unmatched { condition: 2 }), then Some(Fired)",
+        ),
+        (
+            fills,
+            10,
+            (0, 1, 1),
+            "None, then Some(Unmatched { condition: 2 })",
+        ),
         (picks, 10, (0, 1, 1), first),
         (picks, 10, (1, 1, 1), "None, then Some(Fired)"),
         // what has ended tells so first

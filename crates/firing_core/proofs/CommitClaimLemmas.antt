@@ -34,12 +34,13 @@ use Rattle.firing_core.specs.CoreState.{CoreState, ended}
 use Rattle.firing_core.specs.Events.{apply, with_state, without_claim}
 use Rattle.firing_core.specs.Grants.{Granted}
 use Rattle.firing_core.specs.Kept.{IsKept}
-use Rattle.firing_core.specs.Store.{Stored, memory_in}
+use Rattle.firing_core.specs.Store.{IsLater, Stored, memory_in}
 use Rattle.firing_core.proofs.ClaimLemmas.{IsGoing-ended}
 use Rattle.firing_core.proofs.EventLemmas.{IsLawful-apply}
 use Rattle.firing_core.proofs.PairLemmas.{length-filter}
 use Rattle.firing_core.proofs.FieldLemmas.{sized-born, step-fields}
 use Rattle.firing_core.proofs.FireLemmas.{born_in-push, index_after}
+use Rattle.firing_core.proofs.GroupedLemmas.{IsGrouping-later}
 use Rattle.firing_core.proofs.GrantLemmas.{IsClaimOf, StandsFor, committed, held, may_fire-held}
 use Rattle.firing_core.proofs.KeptLemmas.{IsWithout, fitting_left, footprints_left}
 
@@ -127,6 +128,7 @@ pub record HasCommitted (before : Inside) (store : Stored) (left : Standing) (gr
   pub next : store.next ≡ before.store.next + length (born before.store.next done.changes)
   pub room : store.room ≡ room_without before.store.room (need_of before grant done)
   pub spare : before.store.spare ≤ store.spare + length (born before.store.next done.changes)
+  pub later : IsLater before.store store
   pub gone : IsWithout before.claims left grant.number
 
 -- its state is the next one
@@ -180,6 +182,7 @@ HoldsKept-committed before store left grant done may has =
     record {
       kept = kept_after before store left grant done may has;
       index = index_after old.base store.base old.entries store.entries (entry_of old.next c done) before.index has.base has.entries holds.index;
+      grouped = IsGrouping-later before.grouped old store has.later holds.grouped;
       splits = holds.splits;
       footprints = footprints_left before left grant.number holds has.gone;
       fitting = fitting_left before left grant.number holds has.gone;

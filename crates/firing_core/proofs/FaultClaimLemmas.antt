@@ -50,6 +50,7 @@ HoldsKept-faulted before left grant failure may is =
         refraction = holds.kept.refraction;
       };
       index = holds.index;
+      grouped = holds.grouped;
       splits = holds.splits;
       footprints = footprints_left before left grant.number holds is;
       fitting = fitting_left before left grant.number holds is;

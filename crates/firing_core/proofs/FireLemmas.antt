@@ -18,9 +18,11 @@ use Rattle.firing_core.specs.declared.machine.Core.TheInside.{Inside}
 use Rattle.firing_core.specs.CoreFields.{HoldsKept, IsIndexOf, core_in, state_in}
 use Rattle.firing_core.specs.Firing.{Fires}
 use Rattle.firing_core.specs.Kept.{IsKept}
-use Rattle.firing_core.specs.Store.{Stored, at_places, came, memory_in}
+use Rattle.firing_core.specs.Store.{IsLater, Stored, at_places, came, memory_in}
 use Rattle.firing_core.proofs.FieldLemmas.{sized-born, step-fields}
 use Rattle.firing_core.proofs.KeptLemmas.{no_room}
+use Rattle.firing_core.proofs.GroupedLemmas.{IsGrouping-later}
+use Rattle.firing_core.proofs.LaterLemmas.{IsLater-same}
 use Rattle.firing_core.proofs.LawfulLemmas.{IsKept-step}
 
 -- the fields before a firing that may come, its choice, and its effect
@@ -42,6 +44,7 @@ pub record IsCommitted (old reserved new : Stored) (c : Choice) (done : Effect) 
   pub base : new.base ≡ reserved.base
   pub entries : new.entries ≡ reserved.entries ++ entry_of reserved.next c done ∷ []
   pub next : new.next ≡ reserved.next + length (born reserved.next done.changes)
+  pub later : IsLater reserved new
 
 pub memory_in-same : (s t : Stored) → s.places ≡ t.places → s.base ≡ t.base → s.entries ≡ t.entries → memory_in s ≡ memory_in t
 memory_in-same s t places base entries = λ i. at_places (came (base i) (entries i)) (places i)
@@ -94,6 +97,7 @@ HoldsKept-fired before reserved new halted c done may is halts =
     record {
       kept = subst IsKept (sym (same_core before new halted base_is)) (IsKept-step k c (state_in (record before { store = new; halted = halted })) may.holds.kept may.alone may.unfailed may.within steps);
       index = index_after old.base new.base old.entries new.entries (entry_of old.next c done) before.index base_is entries_are may.holds.index;
+      grouped = IsGrouping-later before.grouped reserved new is.later (IsGrouping-later before.grouped old reserved (IsLater-same old reserved is.same_base is.same_entries is.places) may.holds.grouped);
       splits = may.holds.splits;
       most = may.holds.most;
       room = (no_room before.claims.claims before.most new.room new.spare may.alone).0;

@@ -64,6 +64,7 @@ HoldsKept-without before left number holds is =
         refraction = holds.kept.refraction;
       });
       index = holds.index;
+      grouped = holds.grouped;
       splits = holds.splits;
       footprints = footprints_left before left number holds is;
       fitting = fitting_left before left number holds is;
@@ -98,6 +99,7 @@ HoldsKept-none before left holds is =
         refraction = holds.kept.refraction;
       });
       index = holds.index;
+      grouped = holds.grouped;
       splits = holds.splits;
       footprints = is.footprints ∙ sym (ap (map (λ (claim : Claim). footprint before.program.value claim.candidate)) is.claims);
       fitting = subst (AllByRecursion (λ (claim : Claim). Fits before.program.value claim.candidate)) (sym is.claims) tt;

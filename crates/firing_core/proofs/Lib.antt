@@ -3,9 +3,12 @@ pub mod ListLemmas
 pub mod TagLemmas
 pub mod StoreLemmas
 pub mod StoredLemmas
+pub mod LaterLemmas
 pub mod MatchingLemmas
 pub mod AcceptanceLemmas
 pub mod LivingLemmas
+pub mod KeyLemmas
+pub mod GroupedLemmas
 pub mod BornLemmas
 pub mod FilterLemmas
 pub mod UnfiredLemmas

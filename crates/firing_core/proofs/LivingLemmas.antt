@@ -1,5 +1,5 @@
 -- What is asked of the elements of a store, slot by slot.
-use Rattle.std.proofs.Common.{◌≡◌, ℕ, ◌+◌, ◌<◌, List, [], ◌∷◌, ◌||◌, drop, is_some, length, slice_index_or, suc, zero, ap, ◌∙◌, subst, sym, arith}
+use Rattle.std.proofs.Common.{◌≡◌, ℕ, ◌+◌, ◌<◌, List, [], ◌∷◌, ◌||◌, drop, is_some, length, slice_index_or, suc, zero, ap, ◌∙◌, subst, arith}
 use Rattle.std.specs.List.{AllByRecursion}
 use Rattle.std.proofs.Math.Seq.{drop-cons}
 use Rattle.std.proofs.lemmas.List.Folds.{list_any-append}
@@ -10,7 +10,7 @@ use Rattle.rule_base.specs.Bindings.{Bindings}
 use Rattle.rule_base.specs.Match.{accepts_some}
 use Rattle.element_tests.specs.Asking.{MayAsk}
 use Rattle.firing_core.specs.Matching.{MayFilter}
-use Rattle.firing_core.specs.Store.{Stored, living, living_at, memory_in}
+use Rattle.firing_core.specs.Store.{Stored, living, living_at}
 use Rattle.firing_core.proofs.MatchingLemmas.{Each-split}
 use Rattle.firing_core.proofs.StoredLemmas.{living_at-append}
 
@@ -20,10 +20,10 @@ Each-slot P s [] i within each = absurd (omega (arith, within))
 Each-slot P s (slot ∷ slots) zero within each = (Each-split P (living s slot) (living_at s slots) (subst (AllByRecursion P) (living_at-append s (slot ∷ []) slots) each)).0
 Each-slot P s (slot ∷ slots) (suc i) within each = Each-slot P s slots i (omega (arith, within)) (Each-split P (living s slot) (living_at s slots) (subst (AllByRecursion P) (living_at-append s (slot ∷ []) slots) each)).1
 
--- so what may be asked of each element of the memory may be asked at each slot
-pub MayFilter-slot : (cond : Cond) (s : Stored) (b : Bindings) (slots : List ℕ) (i : ℕ) → i < length slots → living_at s slots ≡ memory_in s → MayFilter cond (memory_in s) b → MayFilter cond (living s (slice_index_or slots i 0)) b
-MayFilter-slot cond s b slots i within whole may = record {
-  asked = Each-slot (MayAsk cond b) s slots i within (subst (AllByRecursion (MayAsk cond b)) (sym whole) may.asked);
+-- so what may be asked of each that lives at places may be asked at one of them
+pub MayFilter-slot : (cond : Cond) (s : Stored) (b : Bindings) (slots : List ℕ) (i : ℕ) → i < length slots → MayFilter cond (living_at s slots) b → MayFilter cond (living s (slice_index_or slots i 0)) b
+MayFilter-slot cond s b slots i within may = record {
+  asked = Each-slot (MayAsk cond b) s slots i within may.asked;
   placed = may.placed;
 }
 

@@ -38,6 +38,8 @@ use Rattle.firing_core.specs.Store.{Stored, at_places, came, memory_in}
 use Rattle.firing_core.proofs.CommitLemmas.{HasMatch-matches}
 use Rattle.firing_core.proofs.EventLemmas.{IsLawful-apply, IsState-lawful}
 use Rattle.firing_core.proofs.FittingLemmas.{fitting_is_decided}
+use Rattle.firing_core.proofs.GroupedLemmas.{IsGrouping-later}
+use Rattle.firing_core.proofs.LaterLemmas.{IsLater-same}
 
 -- such a claim may be made
 pub claimed_event : (k : CoreState) (candidate : Candidate) → Fits k.program candidate → claim_refusal k candidate ≡ None → apply k (event.Claimed candidate) ≡ Some (with_claim k candidate)
@@ -125,6 +127,7 @@ HoldsKept-claimed before store standing candidate needed holds fits free has =
         refraction = holds.kept.refraction;
       });
       index = index_same before.store.base store.base before.store.entries store.entries before.index has.base has.entries holds.index;
+      grouped = IsGrouping-later before.grouped before.store store (IsLater-same before.store store has.base has.entries has.places) holds.grouped;
       splits = holds.splits;
       footprints = has.footprints ∙ ap (λ fs. fs ++ footprint program candidate ∷ []) holds.footprints ∙ sym (map_push by before.claims.claims new) ∙ ap (map by) (sym has.claims);
       fitting = subst (AllByRecursion fitting) (sym has.claims) (Each-append fitting before.claims.claims (new ∷ []) holds.fitting (fits, tt));

@@ -35,7 +35,7 @@ differ : (a b : ℕ) → nat_eq a b ≡ false → a ≡ b → ⊥
 differ a b is same = false≢true (sym is ∙ eq-eqb a b same)
 
 -- a variable that gets a value leaves the others as they are
-binding_of-bound : (b : Bindings) (var u : ℕ) (v : Value) → (var ≡ u → ⊥) → binding_of (bound b var v) u ≡ binding_of b u
+pub binding_of-bound : (b : Bindings) (var u : ℕ) (v : Value) → (var ≡ u → ⊥) → binding_of (bound b var v) u ≡ binding_of b u
 binding_of-bound [] var u v other = refl
 binding_of-bound (x ∷ b) zero zero v other = absurd (other refl)
 binding_of-bound (x ∷ b) zero (suc u) v other = refl

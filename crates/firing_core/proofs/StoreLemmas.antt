@@ -50,7 +50,7 @@ at_places-append elements (p ∷ ps) qs =
     step (Some e) = refl
 
 -- what comes behind changes nothing at places that are taken
-get_before : {X : Type 0} (xs ys : List X) (p : ℕ) → p < length xs → slice_get (xs ++ ys) p ≡ slice_get xs p
+pub get_before : {X : Type 0} (xs ys : List X) (p : ℕ) → p < length xs → slice_get (xs ++ ys) p ≡ slice_get xs p
 get_before [] ys p lt = absurd (omega (arith, lt))
 get_before (x ∷ xs) ys zero lt = refl
 get_before (x ∷ xs) ys (suc p) lt = get_before xs ys p (omega (arith, lt))

@@ -84,6 +84,7 @@ IsSame-next first second third before after = record {
   entries = after.entries ∙ before.entries;
   next = after.next ∙ before.next;
   room = after.room ∙ before.room;
+  fewer = λ place has. before.fewer place (after.fewer place has);
 }
 
 -- one place more in a range

@@ -20,6 +20,7 @@ use Rattle.interference.specs.Splits.{splits_of}
 use Rattle.standing_claims.specs.declared.claim.Claim.{Claim}
 use Rattle.firing_core.specs.CoreState.{CoreState}
 use Rattle.firing_core.specs.Refusals.{claimed_footprints}
+use Rattle.firing_core.specs.Grouped.{IsGroupingOf}
 use Rattle.firing_core.specs.Kept.{IsKept}
 use Rattle.firing_core.specs.Store.{memory_in}
 
@@ -59,6 +60,8 @@ pub record IsIndexOf (before : List Choice) (entries : List Entry) (index : Inde
 pub record HoldsKept (core : Inside) : Type 0 where
   pub kept : IsKept (core_in core)
   pub index : IsIndexOf core.store.base.fired core.store.entries core.index
+  -- what was grouped of the store is in its groups
+  pub grouped : IsGroupingOf core.grouped core.store
   pub splits : core.splits ≡ splits_of core.program.value
   -- each claim stands with its footprint
   pub footprints : core.claims.footprints ≡ claimed_footprints (core_in core)

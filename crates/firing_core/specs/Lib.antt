@@ -1,6 +1,8 @@
 -- what the public calls promise
 pub mod CoreState
 pub mod Store
+pub mod PinnedKeys
+pub mod Grouped
 pub mod Refusals
 pub mod Events
 pub mod Grants

@@ -1,5 +1,5 @@
 -- The elements of a run: those that its base has and those that its firings made, and which of them are in working memory.
-use Rattle.std.specs.Prelude.{◌≡◌, ℕ, ◌+◌, ◌<◌, List, [], ◌∷◌, ◌++◌, Option, None, Some, filter, filter_map, length, slice_get}
+use Rattle.std.specs.Prelude.{◌≡◌, ℕ, ◌+◌, ◌<◌, List, [], ◌∷◌, ◌++◌, true, Option, None, Some, filter, filter_map, length, slice_get}
 use Rattle.std.specs.List.{AllByRecursion}
 use Rattle.rule_base.specs.declared.base.Base.{Base}
 use Rattle.rule_base.specs.declared.element.Element.{Element}
@@ -45,12 +45,21 @@ abbrev pub IsPlaceOf : List Element → ℕ → Option ℕ → Type 0
 IsPlaceOf elements tag None = element_at elements tag ≡ None
 IsPlaceOf elements tag (Some place) = (e : Element) × (slice_get elements place ≡ Some e) × (e.tag ≡ tag)
 
--- two stores differ in their working memory alone, and the later has no less room
+-- two stores differ in their working memory alone, of which the later has no more
 pub record IsSameBesideMemory (old new : Stored) : Type 0 where
   pub base : new.base ≡ old.base
   pub entries : new.entries ≡ old.entries
   pub next : new.next ≡ old.next
   pub room : new.room ≡ old.room
+  pub fewer : (place : ℕ) → has_place new.places place ≡ true → has_place old.places place ≡ true
+
+-- a store is another's later on: its base is the same, further entries stand behind the others, and of the places to which an element had come
+-- no more are in working memory
+pub record IsLater (old new : Stored) : Type 0 where
+  pub base : new.base ≡ old.base
+  pub more : List Entry
+  pub entries : new.entries ≡ old.entries ++ more
+  pub fewer : (place : ℕ) → place < length (came old.base old.entries) → has_place new.places place ≡ true → has_place old.places place ≡ true
 
 -- the elements at these places that are in working memory
 abbrev pub living_at : Stored → List ℕ → Memory

@@ -6,11 +6,13 @@ ghost use Rattle.std.specs.Result.{result_err};
 ghost use Rattle.rule_base.specs.Match.{match_from};
 ghost use Rattle.rule_base.specs.Memory.{HasSize};
 ghost use Rattle.rule_base.specs.Sound.{IsSound, sizes_of};
+ghost use Rattle.firing_core.specs.Grouped.{IsWholeGroupingOf};
 ghost use Rattle.firing_core.specs.Matching.{MayMatch};
 ghost use Rattle.firing_core.specs.Refusals.{failing_condition};
 ghost use Rattle.firing_core.specs.Store.{memory_in};
 
 use crate::acceptance::accepts;
+use crate::grouped::Grouped;
 use crate::negation::accepts_some_of;
 use crate::store::Store;
 use element_tests::Binds;
@@ -19,18 +21,22 @@ use rule_base::{Choice, Cond, Program};
 
 /// The number of the first condition element of the choice's rule that fails, from 1, if one does. Where
 /// tags are left over behind the last, it is the number past the last; where there is no such rule, none
-/// fails. A positive condition element takes one look-up by its tag, and a negated one goes through
-/// working memory. `binds` is only room: memory is taken where the row has never been so long.
+/// fails. A positive condition element takes one look-up by its tag, and a negated one goes through the
+/// elements that `accepts_some_of` names. `binds` is only room: memory is taken where the row has never
+/// been so long.
 pub fn failing_condition(
     program: &Program,
     store: &Store,
+    grouped: &mut Grouped,
     choice: &Choice,
     binds: &mut Binds,
 ) -> Result<Option<u32>, OutOfMemory>
     requires sound { IsSound program.now }
     requires memory { AllByRecursion (HasSize (sizes_of program.now.classes)) (memory_in store.now) }
-    ensures { IfOk result
+    requires grouped { IsWholeGroupingOf grouped.old store.now }
+    ensures failing { IfOk result
         (λ number. number ≡ failing_condition program.now (memory_in store.now) choice.now) }
+    ensures grouped { IsWholeGroupingOf grouped.new store.now }
 {
     let Some(rule) = program.rules.get(choice.rule as usize) else {
         return Ok(None);
@@ -40,6 +46,7 @@ pub fn failing_condition(
         1,
         rule.conds.as_slice(),
         store,
+        grouped,
         choice.tags.as_slice(),
         binds,
     ))
@@ -51,21 +58,25 @@ fn failing_from(
     number: u32,
     conds: &[Cond],
     store: &Store,
+    grouped: &mut Grouped,
     tags: &[u64],
     binds: &mut Binds,
 ) -> Option<u32>
     requires may { MayMatch conds.now (memory_in store.now) binds.old }
     requires few { number + length conds.now < 2 ^ 32 }
-    ensures { result ≡ result_err (match_from number conds.now (memory_in store.now) tags.now binds.old) }
+    requires grouped { IsWholeGroupingOf grouped.old store.now }
+    ensures failing { result
+        ≡ result_err (match_from number conds.now (memory_in store.now) tags.now binds.old) }
+    ensures grouped { IsWholeGroupingOf grouped.new store.now }
 {
     let Some((cond, conds)) = conds.split_first() else {
         return if tags.is_empty() { None } else { Some(number) };
     };
     if cond.negated {
-        if accepts_some_of(cond, store, binds) {
+        if accepts_some_of(cond, store, grouped, binds) {
             return Some(number);
         }
-        return failing_from(number + 1, conds, store, tags, binds);
+        return failing_from(number + 1, conds, store, grouped, tags, binds);
     }
     let Some((tag, tags)) = tags.split_first() else {
         return Some(number);
@@ -76,5 +87,5 @@ fn failing_from(
     if !accepts(cond, binds, element) {
         return Some(number);
     }
-    failing_from(number + 1, conds, store, tags, binds)
+    failing_from(number + 1, conds, store, grouped, tags, binds)
 }

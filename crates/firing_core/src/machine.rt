@@ -12,7 +12,7 @@ ghost use Rattle.rule_base.specs.Fits.{Fits};
 ghost use Rattle.interference.specs.Footprint.{footprint};
 ghost use Rattle.firing_core.specs.CoreState.{IsRunOf, ended, looked};
 ghost use Rattle.rule_base.specs.State.{has_fired};
-ghost use Rattle.firing_core.specs.Refusals.{busy_lock, claim_refusal, crowding};
+ghost use Rattle.firing_core.specs.Refusals.{busy_lock, claim_refusal, crowding, failing_condition};
 ghost use Rattle.firing_core.specs.Lawful.{IsLawful};
 ghost use Rattle.firing_core.specs.declared.claims.Event.TheVariants as event;
 ghost use Rattle.firing_core.specs.Answers.{TellsWhy, after_ending, claim_of, commit_refusal, is_granted, turned_away};
@@ -25,6 +25,7 @@ use crate::failing::failing_condition;
 use crate::fired::is_fired;
 use crate::gone::gone_tag;
 use crate::grant::Grant;
+use crate::grouped::Grouped;
 use crate::instantiations::first_unfired;
 use crate::same::same_elements;
 use crate::store::Store;
@@ -59,6 +60,8 @@ pub struct Core {
     splits: Splits,
     /// When choices last fired. Firings don't fill it: whoever asks has it take in the journal first.
     index: RefractionIndex,
+    /// The elements by the values that negated condition elements ask for. Firings don't fill it either.
+    grouped: Grouped,
     /// Room for the bindings of a match.
     binds: Binds,
 }
@@ -99,6 +102,7 @@ impl Core {
         let binds = Binds::new(alloc, 0)?;
         let splits = Splits::new(alloc, &program)?;
         let most = room_of(&program)?;
+        let grouped = Grouped::new(alloc, &program)?;
         let index = RefractionIndex::new(alloc, base.fired.as_slice())?;
         let store = Store::new(alloc, base)?;
         Ok(Core {
@@ -111,6 +115,7 @@ impl Core {
             most,
             splits,
             index,
+            grouped,
             binds,
         })
     }
@@ -253,14 +258,30 @@ impl Core {
             return Ok(Some(ClaimRefusal::Gone { tag }));
         }
         let choice = &candidate.choice;
-        let failing = failing_condition(&self.program, &self.store, choice, &mut self.binds)?;
-        if let Some(condition) = failing {
+        if let Some(condition) = self.failing(alloc, choice)? {
             return Ok(Some(ClaimRefusal::Unmatched { condition }));
         }
         if self.has_fired(alloc, choice)? {
             return Ok(Some(ClaimRefusal::Fired));
         }
         Ok(self.crowded(choice))
+    }
+
+    /// The number of the first condition element of the choice's rule that fails, from 1, if one does. It
+    /// has the groups take in the elements that came since they were last asked.
+    fn failing(&mut self, alloc: Global, choice: &Choice) -> Result<Option<u32>, OutOfMemory>
+        ensures failing { IfOk result (λ number. number
+            ≡ failing_condition self.old.program self.old.state.memory choice.now) }
+        ensures same { self.new ≡ self.old }
+    {
+        self.grouped.take_in(alloc, &self.store)?;
+        failing_condition(
+            &self.program,
+            &self.store,
+            &mut self.grouped,
+            choice,
+            &mut self.binds,
+        )
     }
 
     /// Whether a choice that matches has fired. It is one look-up under `Once`, once the index has taken in

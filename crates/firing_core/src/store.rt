@@ -9,7 +9,7 @@ ghost use Rattle.rule_base.specs.Effect.{removed_tags};
 ghost use Rattle.rule_base.specs.Memory.{Rises, element_at, tags_of};
 ghost use Rattle.rule_base.specs.Step.{born, entry_of, without};
 ghost use Rattle.rule_base.specs.Views.{element_in};
-ghost use Rattle.firing_core.specs.Store.{IsPlaceOf, IsSameBesideMemory, came, living, living_at, memory_in};
+ghost use Rattle.firing_core.specs.Store.{IsLater, IsPlaceOf, IsSameBesideMemory, came, living, living_at, memory_in};
 
 use crate::tags::place_of;
 use commit_journal::{Journal, Room};
@@ -72,6 +72,20 @@ impl Store {
         ensures next { result.now.next ≡ self.now.next }
     {
         &self.journal
+    }
+
+    /// Which places are in working memory.
+    pub fn memory(&self) -> &Memory
+        ensures { result.now.places ≡ self.now.places }
+    {
+        &self.memory
+    }
+
+    /// How many elements ever came.
+    pub fn came(&self) -> usize
+        ensures { result ≡ length (came self.now.base self.now.entries) }
+    {
+        self.memory.came()
     }
 
     /// The journal, where nothing asks for the elements any more.
@@ -199,6 +213,7 @@ impl Store {
         requires room { FitsIn (room_for tags.now (removed_tags effect.now.changes) (born self.old.next effect.now.changes) effect.now.pieces) self.old.room }
         requires spare { length (born self.old.next effect.now.changes) ≤ self.old.spare }
         ensures memory { memory_in self.new ≡ without (memory_in self.old) (removed_tags effect.now.changes) ++ born self.old.next effect.now.changes }
+        ensures later { IsLater self.old self.new }
         ensures base { self.new.base ≡ self.old.base }
         ensures entries { self.new.entries ≡ self.old.entries ++ entry_of self.old.next (record { rule = rule; tags = tags.now }) effect.now ∷ [] }
         ensures next { self.new.next ≡ self.old.next + length (born self.old.next effect.now.changes) }

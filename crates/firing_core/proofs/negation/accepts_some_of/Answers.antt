@@ -1,13 +1,7 @@
--- What lives at a slot is of the working memory, and it is what is left that gets smaller.
-use Rattle.std.proofs.Common.{slice_index_or, subst, sym}
+-- What lives at the slots is the working memory.
+use Rattle.std.proofs.Common.{subst, sym}
 use Rattle.firing_core.specs.Matching.{MayFilter}
-use Rattle.firing_core.specs.Store.{living}
-use Rattle.firing_core.proofs.LivingLemmas.{MayFilter-slot}
 use Rattle.firing_core.proofs.negation.accepts_some_of.Goals as goal
 
-pub accepts_living-requires : goal.accepts_living-requires
-accepts_living-requires c =
-    let s = c.args.store.now in
-    let slots = c.slots-place-items.result.now in
-    subst (MayFilter c.args.cond.now (living s (slice_index_or slots c.loop-place.place-index 0))) (sym c.loop-place.invariant.kept)
-    (MayFilter-slot c.args.cond.now s c.args.binds.now slots c.loop-place.place-index c.loop-place-test.true c.slots-place-items.ensures c.requires)
+pub accepts_some_at-requires : goal.accepts_some_at-requires
+accepts_some_at-requires c = subst (λ memory. MayFilter c.args.cond.now memory c.args.binds.now) (sym c.slots.ensures) c.requires.may

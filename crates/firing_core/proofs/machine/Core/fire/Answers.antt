@@ -36,7 +36,7 @@ invariant_of-self-2 g c =
     let choice = c.args.choice.now in
     let done = c.args.effect.now in
     let may = may_fields before c.args.self.now choice done c.self.view_is c.self.invariant c.requires.alone c.requires.going c.requires.may_fire c.requires.effect in
-    let is : IsCommitted before.store c.reserve.new.self c.commit.new.self choice done = record { places = c.reserve.ensures.memory; same_base = c.reserve.ensures.base; same_entries = c.reserve.ensures.entries; same_next = c.reserve.ensures.next; memory = c.commit.ensures.memory; base = c.commit.ensures.base; entries = search rules; next = c.commit.ensures.next } in
+    let is : IsCommitted before.store c.reserve.new.self c.commit.new.self choice done = record { places = c.reserve.ensures.memory; same_base = c.reserve.ensures.base; same_entries = c.reserve.ensures.entries; same_next = c.reserve.ensures.next; memory = c.commit.ensures.memory; base = c.commit.ensures.base; entries = search rules; next = c.commit.ensures.next; later = c.commit.ensures.later } in
     let halts : c.if-self.self ≡ (before.halted || done.halts) = search rules in
     HoldsKept-fired before c.reserve.new.self c.commit.new.self c.if-self.self choice done may is halts
 
@@ -46,7 +46,7 @@ returns-clause-fires g c =
     let choice = c.args.choice.now in
     let done = c.args.effect.now in
     let may = may_fields before c.args.self.now choice done c.self.view_is c.self.invariant c.requires.alone c.requires.going c.requires.may_fire c.requires.effect in
-    let is : IsCommitted before.store c.reserve.new.self c.commit.new.self choice done = record { places = c.reserve.ensures.memory; same_base = c.reserve.ensures.base; same_entries = c.reserve.ensures.entries; same_next = c.reserve.ensures.next; memory = c.commit.ensures.memory; base = c.commit.ensures.base; entries = search rules; next = c.commit.ensures.next } in
+    let is : IsCommitted before.store c.reserve.new.self c.commit.new.self choice done = record { places = c.reserve.ensures.memory; same_base = c.reserve.ensures.base; same_entries = c.reserve.ensures.entries; same_next = c.reserve.ensures.next; memory = c.commit.ensures.memory; base = c.commit.ensures.base; entries = search rules; next = c.commit.ensures.next; later = c.commit.ensures.later } in
     let halts : c.if-self.self ≡ (before.halted || done.halts) = search rules in
     subst (λ (k : CoreState). Fires k (core_in (record before { store = c.commit.new.self; halted = c.if-self.self })) choice) c.self.view_is
     (Fires-fired before c.reserve.new.self c.commit.new.self c.if-self.self choice done may is halts)

@@ -1,7 +1,8 @@
 -- What has the tag goes with its place.
-use Rattle.std.proofs.Common.{◌≡◌, [], ◌∷◌, Some, ap, ◌∙◌, subst, sym}
+use Rattle.std.proofs.Common.{◌≡◌, [], ◌∷◌, ◌==◌, not, refl, Some, ap, ◌∙◌, subst, sym}
 use Rattle.rule_base.specs.Step.{without}
-use Rattle.firing_core.specs.Store.{IsPlaceOf, Stored, at_places, came, memory_in}
+use Rattle.firing_core.specs.Store.{IsPlaceOf, IsSameBesideMemory, Stored, at_places, came, memory_in}
+use Rattle.firing_core.proofs.LaterLemmas.{has_place-some}
 use Rattle.firing_core.proofs.StoredLemmas.{IsStored-fewer, Rises-stored, without_in, without_none}
 use Rattle.firing_core.proofs.store.Store.remove.Goals as goal
 
@@ -22,3 +23,15 @@ returns-in-Some-clause-memory g c =
 
 pub returns-in_default-clause-memory : goal.returns-in_default-clause-memory
 returns-in_default-clause-memory g c = without_none c.args.self.now c.args.tag c.in_default.ensures
+
+pub returns-in-Some-clause-others : goal.returns-in-Some-clause-others
+returns-in-Some-clause-others g c =
+    let inside = c.self.inside in
+    let after : Stored = record { base = inside.base; entries = inside.journal.entries; next = inside.journal.next; places = c.remove.new.self.places; room = inside.journal.room; spare = c.remove.new.self.spare } in
+    subst (λ (s : Stored). IsSameBesideMemory s after) c.self.view_is (record {
+      base = refl;
+      entries = refl;
+      next = refl;
+      room = refl;
+      fewer = λ place has. has_place-some (λ p. not (p == c.in-Some.place)) inside.memory.places c.remove.new.self.places place c.remove.ensures.places has;
+    })

@@ -9,7 +9,7 @@ use Rattle.firing_core.proofs.store.Store.remove_all.Goals as goal
 pub loop-tag-init : goal.loop-tag-init
 loop-tag-init g c = record {
   memory = without_nothing (memory_in c.args.self.now);
-  others = record { base = refl; entries = refl; next = refl; room = refl };
+  others = record { base = refl; entries = refl; next = refl; room = refl; fewer = λ place has. has };
   spare = omega arith;
   steps = omega arith;
 }
