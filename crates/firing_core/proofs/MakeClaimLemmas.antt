@@ -19,6 +19,7 @@ use Rattle.rhs_actions.specs.Outcomes.{no_rule, rule_at}
 use Rattle.commit_journal.specs.declared.room.Room.{Room}
 use Rattle.commit_journal.specs.Entries.{born_in}
 use Rattle.commit_journal.specs.Room.{FitsIn, room_times}
+use Rattle.commit_journal.proofs.RoomLemmas.{FitsIn-trans}
 use Rattle.interference.specs.Footprint.{footprint}
 use Rattle.interference.proofs.ListLemmas.{Each-among}
 use Rattle.interference.proofs.MatchedLemmas.{matches-listed}
@@ -136,3 +137,46 @@ HoldsKept-claimed before store standing candidate needed holds fits free has =
       spare = spare;
       born = subst (λ es. AllByRecursion (HasSize (sizes_of program.classes)) (born_in es)) (sym has.entries) holds.born;
     }
+
+-- fields whose store has made room
+pub record HasReserved (before : Inside) (store : Stored) : Type 0 where
+  pub places : store.places ≡ before.store.places
+  pub base : store.base ≡ before.store.base
+  pub entries : store.entries ≡ before.store.entries
+  pub next : store.next ≡ before.store.next
+  pub room : FitsIn before.store.room store.room
+  pub spare : before.store.spare ≤ store.spare
+
+core_reserved : (before : Inside) (store : Stored) → HasReserved before store → core_in (record before { store = store }) ≡ core_in before
+core_reserved before store has = λ i. record {
+  program = before.program.value;
+  base = has.base i;
+  budget = before.budget;
+  state = record {
+      memory = at_places (came (has.base i) (has.entries i)) (has.places i);
+      next = has.next i;
+      fired = fired_in before.program.value (has.base i) (has.entries i);
+      entries = has.entries i;
+      halted = before.halted;
+      refraction = (has.base i).refraction;
+    };
+  claims = before.claims.claims;
+  given = before.claims.given;
+  fault = before.fault;
+}
+
+pub HoldsKept-reserved : (before : Inside) (store : Stored) (standing : Standing) → HoldsKept before → HasReserved before store → standing ≡ before.claims → HoldsKept (record before { store = store; claims = standing })
+HoldsKept-reserved before store standing holds has same =
+    let all : HoldsKept (record before { store = store }) = record {
+      kept = subst IsKept (sym (core_reserved before store has)) holds.kept;
+      index = index_same before.store.base store.base before.store.entries store.entries before.index has.base has.entries holds.index;
+      grouped = IsGrouping-later before.grouped before.store store (IsLater-same before.store store has.base has.entries has.places) holds.grouped;
+      splits = holds.splits;
+      footprints = holds.footprints;
+      fitting = holds.fitting;
+      most = holds.most;
+      room = FitsIn-trans (room_times (length before.claims.claims) before.most) before.store.room store.room holds.room has.room;
+      spare = omega (arith, holds.spare, has.spare);
+      born = subst (λ es. AllByRecursion (HasSize (sizes_of before.program.value.classes)) (born_in es)) (sym has.entries) holds.born;
+    } in
+    subst (λ (claims : Standing). HoldsKept (record before { store = store; claims = claims })) (sym same) all

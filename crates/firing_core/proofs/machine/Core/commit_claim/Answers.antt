@@ -46,7 +46,8 @@ invariant_of-self g c =
       entries = search rules;
       next = c.commit.ensures.next;
       room = search rules;
-      spare = c.commit.ensures.spare; later = c.commit.ensures.later;
+      spare = c.commit.ensures.spare;
+      later = c.commit.ensures.later;
       gone = record { claims = search rules; footprints = search rules; given = c.remove.ensures.given };
     } in
     subst (λ halted. HoldsKept (record before { store = c.commit.new.self; halted = halted; claims = c.remove.new.self })) (sym c.halts-self-inside.ensures)
@@ -62,7 +63,8 @@ returns-clause-after g c =
       entries = search rules;
       next = c.commit.ensures.next;
       room = search rules;
-      spare = c.commit.ensures.spare; later = c.commit.ensures.later;
+      spare = c.commit.ensures.spare;
+      later = c.commit.ensures.later;
       gone = record { claims = search rules; footprints = search rules; given = c.remove.ensures.given };
     } in
     subst (λ (k : CoreState). apply k (event.Committed c.args.grant.now.number) ≡ Some (core_in (record before { store = c.commit.new.self; halted = c.halts-self-inside.result; claims = c.remove.new.self }))) c.self.view_is

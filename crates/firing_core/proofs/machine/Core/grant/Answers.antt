@@ -1,5 +1,5 @@
 -- There is room for the claim, its grant may fire, and the fields are those after it.
-use Rattle.std.proofs.Common.{◌≡◌, ◌+◌, ◌-◌, ◌^◌, ◌||◌, ◌==◌, ◌++◌, ◌∷◌, [], Bool, None, Ok, Some, false, length, rules, sym, subst, ap, ◌∙◌}
+use Rattle.std.proofs.Common.{◌≡◌, ◌+◌, ◌-◌, ◌^◌, ◌||◌, ◌==◌, ◌++◌, ◌∷◌, [], Bool, None, Ok, Some, false, length, refl, rules, sym, subst, ap, ◌∙◌}
 use Rattle.rule_base.specs.Fits.{Fits}
 use Rattle.interference.specs.Footprint.{footprint}
 use Rattle.interference.proofs.LockLemmas.{footprint_in_range}
@@ -10,7 +10,7 @@ use Rattle.firing_core.specs.declared.machine.Core.TheInside.{Inside}
 use Rattle.firing_core.specs.Grants.{Granted, MayFireAway}
 use Rattle.firing_core.specs.Refusals.{claim_refusal}
 use Rattle.firing_core.proofs.ClaimLemmas.{IsClaimable-none, Rises-footprint}
-use Rattle.firing_core.proofs.MakeClaimLemmas.{HasClaimed, HoldsKept-claimed, may_fire_away}
+use Rattle.firing_core.proofs.MakeClaimLemmas.{HasClaimed, HoldsKept-claimed, HoldsKept-reserved, may_fire_away}
 use Rattle.firing_core.proofs.machine.Core.grant.Goals as goal
 
 pub add-number-requires-clause-not_full : goal.add-number-requires-clause-not_full
@@ -63,3 +63,13 @@ invariant_of-self-2 c =
       given = search rules;
     } in
     HoldsKept-claimed before c.reserve.new.self c.add-number.new.self candidate c.in_ok-needed.needed c.self.invariant fits free has
+
+pub invariant_of-self : goal.invariant_of-self
+invariant_of-self c =
+    let made = c.reserve.ensures in
+    HoldsKept-reserved c.self.inside c.reserve.new.self c.self.inside.claims c.self.invariant (record { places = made.memory; base = made.base; entries = made.entries; next = made.next; room = made.kept.0; spare = made.kept.1 }) refl
+
+pub invariant_of-self-in_err-reserve-2 : goal.invariant_of-self-in_err-reserve-2
+invariant_of-self-in_err-reserve-2 c =
+    let made = c.reserve.ensures in
+    HoldsKept-reserved c.self.inside c.reserve.new.self c.reserve-2.new.self c.self.invariant (record { places = made.memory; base = made.base; entries = made.entries; next = made.next; room = made.kept.0; spare = made.kept.1 }) (search rules)
