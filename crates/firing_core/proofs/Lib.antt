@@ -9,6 +9,7 @@ pub mod LivingLemmas
 pub mod BornLemmas
 pub mod FilterLemmas
 pub mod UnfiredLemmas
+pub mod FiredChoiceLemmas
 -- the firing
 pub mod FiringLemmas
 pub mod LawfulLemmas
