@@ -1,9 +1,9 @@
 -- Which choices are fired: those that had fired at some time and can be still, told in order.
-use Rattle.std.proofs.Common.{◌≡◌, ℕ, ◌+◌, List, [], ◌∷◌, ◌++◌, Bool, true, false, cond, ◌&&◌, ◌||◌, ◌==◌, Option, Some, None, Ok, Err, is_none, is_ok, is_some, slice_get, Result, refl, sym, ◌∙◌, ap, subst, true≢false}
+use Rattle.std.proofs.Common.{◌≡◌, ℕ, ◌+◌, List, [], ◌∷◌, Bool, true, false, cond, ◌&&◌, ◌||◌, ◌==◌, Option, Some, None, Ok, Err, is_none, is_ok, is_some, slice_get, Result, refl, sym, ◌∙◌, ap, true≢false}
 use Rattle.std.specs.Cmp.{IsTotalOrder, both_tied, nat_cmp_total, on_total, then_total, unsigned_ties}
-use Rattle.std.specs.List.{AllByRecursion, dedup, dedup_from, filter, list_any}
+use Rattle.std.specs.List.{dedup, dedup_from, filter, list_any}
 use Rattle.std.specs.Option.{option_and_then, option_map_or, option_or}
-use Rattle.std.specs.Ordering.{eq_by_cmp, is_eq, nat_cmp, ordering_then}
+use Rattle.std.specs.Ordering.{eq_by_cmp, nat_cmp}
 use Rattle.std.specs.Cmp.Lexicographic.{slice_cmp, texts_ties}
 use Rattle.std.specs.Result.{result_err}
 use Rattle.std.proofs.lemmas.Cmp.{nat_list_cmp_total}
@@ -23,7 +23,7 @@ use Rattle.rule_base.specs.Run.{run}
 use Rattle.rule_base.specs.Sound.{IsSound}
 use Rattle.rule_base.specs.State.{State, choices_of, has_fired, same_choice, same_tags, start}
 use Rattle.rule_base.specs.Step.{is_listed, matches}
-use Rattle.rule_base.proofs.ChoiceLemmas.{any_filter, any_filtered, same_choice-equal}
+use Rattle.rule_base.proofs.ChoiceLemmas.{any_filter, same_choice-equal}
 use Rattle.rule_base.proofs.EachLemmas.{Each-filtered}
 use Rattle.rule_base.proofs.RunLemmas.{FiresOnce-run, StillMatch-run, refraction-run}
 use Rattle.rule_base.proofs.StillFiredLemmas.{is_listed-matches}

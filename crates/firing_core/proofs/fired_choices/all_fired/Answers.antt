@@ -1,10 +1,10 @@
 -- Of all that had fired at some time, in order and each once, those that are fired now are left.
-use Rattle.std.proofs.Common.{◌≡◌, List, Bool, filter, ap, subst, sym, true, ◌∙◌}
+use Rattle.std.proofs.Common.{◌≡◌, List, Bool, ap, subst, sym, true, ◌∙◌}
 use Rattle.std.proofs.lemmas.List.Kept.{IsStrictlySortedBy-filter}
 use Rattle.std.specs.List.{list_any}
 use Rattle.rule_base.specs.declared.instantiation.Choice.{Choice}
 use Rattle.rule_base.specs.State.{same_choice}
-use Rattle.firing_core.specs.FiredChoices.{AreInOrder, choice_order, ever_fired, is_fired_now}
+use Rattle.firing_core.specs.FiredChoices.{AreInOrder, choice_order, is_fired_now}
 use Rattle.firing_core.specs.Store.{memory_in}
 use Rattle.firing_core.proofs.FiredChoiceLemmas.{any_passing, had_fired}
 use Rattle.firing_core.proofs.fired_choices.all_fired.Goals as goal
