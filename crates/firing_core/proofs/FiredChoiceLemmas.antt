@@ -1,13 +1,14 @@
 -- Which choices are fired: those that had fired at some time and can be still, told in order.
-use Rattle.std.proofs.Common.{◌≡◌, ℕ, ◌+◌, List, [], ◌∷◌, Bool, true, false, cond, ◌&&◌, ◌||◌, ◌==◌, Option, Some, None, Ok, Err, is_none, is_ok, is_some, slice_get, Result, refl, sym, ◌∙◌, ap, true≢false}
+use Rattle.std.proofs.Common.{◌≡◌, ℕ, ◌+◌, List, [], ◌∷◌, Bool, true, false, cond, ◌&&◌, ◌||◌, ◌==◌, Option, Some, None, Ok, Err, is_none, is_ok, is_some, slice_get, Result, refl, sym, ◌∙◌, ap, subst, true≢false}
 use Rattle.std.specs.Cmp.{IsTotalOrder, both_tied, nat_cmp_total, on_total, then_total, unsigned_ties}
-use Rattle.std.specs.List.{dedup, dedup_from, filter, list_any}
+use Rattle.std.specs.List.{AllByRecursion, IsDistinct, dedup, dedup_from, filter, list_any}
 use Rattle.std.specs.Option.{option_and_then, option_map_or, option_or}
 use Rattle.std.specs.Ordering.{eq_by_cmp, nat_cmp}
 use Rattle.std.specs.Cmp.Lexicographic.{slice_cmp, texts_ties}
 use Rattle.std.specs.Result.{result_err}
 use Rattle.std.proofs.lemmas.Cmp.{nat_list_cmp_total}
 use Rattle.std.proofs.lemmas.List.Folds.{list_any-append}
+use Rattle.std.proofs.lemmas.Map.Keys.{IsDistinct-from_sorted}
 use Rattle.rule_base.specs.declared.base.Base.{Base}
 use Rattle.rule_base.specs.declared.base.Refraction.{Refraction}
 use Rattle.rule_base.specs.declared.base.Refraction.TheVariants.{Once, Renewed}
@@ -15,7 +16,7 @@ use Rattle.rule_base.specs.declared.entry.Entry.{Entry}
 use Rattle.rule_base.specs.declared.instantiation.Choice.{Choice}
 use Rattle.rule_base.specs.declared.program.Program.{Program}
 use Rattle.rule_base.specs.declared.program.Rule.{Rule}
-use Rattle.rule_base.specs.Base.{IsLawfulBase, StillMatch}
+use Rattle.rule_base.specs.Base.{FitsRule, IsLawfulBase, StillMatch}
 use Rattle.rule_base.specs.Chains.{only_if}
 use Rattle.rule_base.specs.Match.{match_of}
 use Rattle.rule_base.specs.Memory.{Memory, Rises, tags_of}
@@ -23,15 +24,17 @@ use Rattle.rule_base.specs.Run.{run}
 use Rattle.rule_base.specs.Sound.{IsSound}
 use Rattle.rule_base.specs.State.{State, choices_of, has_fired, same_choice, same_tags, start}
 use Rattle.rule_base.specs.Step.{is_listed, matches}
-use Rattle.rule_base.proofs.ChoiceLemmas.{any_filter, same_choice-equal}
-use Rattle.rule_base.proofs.EachLemmas.{Each-filtered}
+use Rattle.rule_base.proofs.BaseLemmas.{IsLawfulBase-run}
+use Rattle.rule_base.proofs.ChoiceLemmas.{any_filter, same_choice-equal, same_choice-itself}
+use Rattle.rule_base.proofs.EachLemmas.{Each-filtered, Each-weaker}
 use Rattle.rule_base.proofs.RunLemmas.{FiresOnce-run, StillMatch-run, refraction-run}
 use Rattle.rule_base.proofs.StillFiredLemmas.{is_listed-matches}
 use Rattle.refraction_index.specs.Firings.{fired_at, last_from}
 use Rattle.refraction_index.specs.StillFired.{is_still_fired}
 use Rattle.refraction_index.proofs.MemberLemmas.{Each-any}
 use Rattle.refraction_index.proofs.StillFiredLemmas.{last_firing_tells}
-use Rattle.firing_core.specs.FiredChoices.{choice_order, ever_fired, is_fired_now, may_be_fired}
+use Rattle.firing_core.specs.FiredChoices.{AreFired, AreInOrder, choice_order, ever_fired, is_fired_now, may_be_fired}
+use Rattle.firing_core.specs.CoreLaws.{FiredMakeBases}
 use Rattle.firing_core.specs.Refusals.{failing_condition}
 use Rattle.firing_core.specs.Unfired.{is_fired_by}
 
@@ -167,3 +170,38 @@ has_fired-under Renewed program base s c is sound lawful ran rises =
 
 pub has_fired-now : (program : Program) (base : Base) (s : State) (c : Choice) → IsSound program → IsLawfulBase program base → run program (start base) (choices_of s.entries) ≡ Some s → Rises (tags_of s.memory) → has_fired s c ≡ is_fired_now program base s.memory s.entries c
 has_fired-now program base s c sound lawful ran rises = has_fired-under base.refraction program base s c refl sound lawful ran rises
+
+-- those that are told make a lawful base
+Each-itself : (choices : List Choice) → AllByRecursion (λ (c : Choice). list_any (same_choice c) choices ≡ true) choices
+Each-itself [] = tt
+Each-itself (c ∷ choices) =
+    (ap (λ b. b || list_any (same_choice c) choices) (same_choice-itself c), Each-weaker (λ (d : Choice). list_any (same_choice d) choices ≡ true) (λ (d : Choice). list_any (same_choice d) (c ∷ choices) ≡ true) (λ d among. or_later (same_choice d c) (list_any (same_choice d) choices) among) choices (Each-itself choices))
+  where
+    or_later : (a b : Bool) → b ≡ true → (a || b) ≡ true
+    or_later true b is = refl
+    or_later false b is = is
+
+Each-fired : (P : Choice → Type 0) (s : State) (choices : List Choice) → AreFired s choices → AllByRecursion P s.fired → AllByRecursion P choices
+Each-fired P s choices are each =
+    Each-weaker (λ (c : Choice). list_any (same_choice c) choices ≡ true) P (λ c among. Each-any P c s.fired each (sym (are.fired c) ∙ among)) choices (Each-itself choices)
+
+StillMatch-fired : (r : Refraction) (program : Program) (s : State) (choices : List Choice) → AreFired s choices → StillMatch r program s.memory s.fired → StillMatch r program s.memory choices
+StillMatch-fired Once program s choices are still = tt
+StillMatch-fired Renewed program s choices are still = Each-fired (λ (c : Choice). is_listed program s.memory c ≡ true) s choices are still
+
+pub IsDistinct-in_order : (choices : List Choice) → AreInOrder choices → IsDistinct same_choice choices
+IsDistinct-in_order choices order = subst (λ (e : Choice → Choice → Bool). IsDistinct e choices) (λ i c d. sym (same_choice-ties c d) i) (IsDistinct-from_sorted choice_order choices order)
+
+pub IsLawfulBase-fired : FiredMakeBases
+IsLawfulBase-fired k choices lawful few are =
+    let s = k.state in
+    let left = IsLawfulBase-run k.program k.base (choices_of s.entries) s lawful.sound lawful.began lawful.ran few in
+    record {
+      memory = left.memory;
+      given = left.given;
+      from_one = left.from_one;
+      few = left.few;
+      distinct = IsDistinct-in_order choices are.order;
+      fitting = Each-fired (FitsRule k.program s.next) s choices are left.fitting;
+      matching = StillMatch-fired s.refraction k.program s choices are left.matching;
+    }

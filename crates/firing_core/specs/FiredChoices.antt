@@ -1,6 +1,7 @@
 -- The choices that are fired, in their order.
-use Rattle.std.specs.Prelude.{List, ◌++◌, Bool, true, ◌&&◌}
+use Rattle.std.specs.Prelude.{◌≡◌, List, ◌++◌, Bool, true, ◌&&◌}
 use Rattle.std.specs.Cmp.Lexicographic.{slice_cmp}
+use Rattle.std.specs.List.{list_any}
 use Rattle.std.specs.List.Sorted.{IsStrictlySortedBy}
 use Rattle.std.specs.Ordering.{nat_cmp, ordering_then}
 use Rattle.std.specs.declared.cmp.Ordering.{Ordering}
@@ -11,7 +12,7 @@ use Rattle.rule_base.specs.declared.entry.Entry.{Entry}
 use Rattle.rule_base.specs.declared.instantiation.Choice.{Choice}
 use Rattle.rule_base.specs.declared.program.Program.{Program}
 use Rattle.rule_base.specs.Memory.{Memory}
-use Rattle.rule_base.specs.State.{choices_of}
+use Rattle.rule_base.specs.State.{State, choices_of, has_fired, same_choice}
 use Rattle.rule_base.specs.Step.{matches}
 use Rattle.firing_core.specs.Unfired.{is_fired_by}
 
@@ -23,6 +24,11 @@ choice_order c d = ordering_then (nat_cmp c.rule d.rule) (slice_cmp nat_cmp c.ta
 -- each choice comes before all later ones in that order, so that none stands there twice
 abbrev pub AreInOrder : List Choice → Type 0
 AreInOrder choices = IsStrictlySortedBy choice_order choices
+
+-- these are the choices that are fired in the state, in their order
+pub record AreFired (s : State) (choices : List Choice) : Type 0 where
+  pub fired : (c : Choice) → list_any (same_choice c) choices ≡ has_fired s c
+  pub order : AreInOrder choices
 
 -- the choices that had fired before the journal begins, and then those of its entries
 abbrev pub ever_fired : Base → List Entry → List Choice
