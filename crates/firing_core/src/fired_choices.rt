@@ -25,7 +25,8 @@ use std::alloc::Global;
 use std::cmp::Ordering;
 
 /// The choices that are fired, in their order, by an index that has taken in the journal. It takes time
-/// n log n in the number of choices that had fired at some time, and under `Renewed` a match for each.
+/// n log n in the number of choices that had fired at some time, of which it makes copies, and under
+/// `Renewed` a match for each, also beside what was born since it last fired.
 pub fn all_fired(
     alloc: Global,
     program: &Program,

@@ -282,8 +282,8 @@ impl Core {
     }
 
     /// The choices that are fired, in rising order of their rules' numbers and then of their tags. It takes
-    /// time n log n in the number of choices that had fired at some time, and under `Renewed` a match for
-    /// each of them beside.
+    /// time n log n in the number of choices that had fired at some time, of which it makes copies, and
+    /// under `Renewed` a match for each, also beside what was born since it last fired.
     pub fn fired(&mut self, alloc: Global) -> Result<Sequence<Choice>, OutOfMemory>
         ensures fired { IfOk result (λ choices. (c : Choice) →
             list_any (same_choice c) choices ≡ has_fired self.old.state c) }
