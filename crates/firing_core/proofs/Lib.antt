@@ -12,6 +12,7 @@ pub mod GroupedLemmas
 pub mod BornLemmas
 pub mod FilterLemmas
 pub mod UnfiredLemmas
+pub mod FiredChoiceLemmas
 -- the firing
 pub mod FiringLemmas
 pub mod LawfulLemmas

@@ -1,13 +1,16 @@
 -- The laws of a core: whatever happens keeps it lawful, and only adds to its journal.
-use Rattle.std.specs.Prelude.{◌≡◌, List, [], true, None, Some, ◌↔◌}
+use Rattle.std.specs.Prelude.{◌≡◌, ◌<◌, ◌^◌, List, [], true, None, Some, ◌↔◌}
 use Rattle.rule_base.specs.declared.instantiation.Candidate.{Candidate}
 use Rattle.rule_base.specs.declared.instantiation.Choice.{Choice}
 use Rattle.rule_base.specs.declared.program.Program.{Program}
 use Rattle.rule_base.specs.Fits.{Fits}
+use Rattle.rule_base.specs.Base.{IsLawfulBase}
+use Rattle.rule_base.specs.State.{base_of}
 use Rattle.firing_core.specs.declared.claims.Event.{Event}
 use Rattle.firing_core.specs.CoreState.{CoreState, ended}
 use Rattle.firing_core.specs.Lawful.{IsLawful}
 use Rattle.firing_core.specs.FinishedRun.{GoesOn}
+use Rattle.firing_core.specs.FiredChoices.{AreFired}
 use Rattle.firing_core.specs.Events.{after_firing, fold, is_fitting, without_claims}
 
 -- whatever happens to a lawful core, it stays lawful
@@ -29,3 +32,9 @@ DroppingKeepsLawful = (k : CoreState) → IsLawful k → IsLawful (without_claim
 -- what an event asks of a candidate is that it fits
 abbrev pub FittingIsDecided : Type 0
 FittingIsDecided = (program : Program) (candidate : Candidate) → (is_fitting program candidate ≡ true) ↔ Fits program candidate
+
+-- a run may go on from where a lawful core has come, as long as tags are left: its memory, its next tag and the choices
+-- that are fired, in their order, make a lawful base
+abbrev pub FiredMakeBases : Type 0
+FiredMakeBases = (k : CoreState) (choices : List Choice) → IsLawful k → k.state.next < 2 ^ 63 → AreFired k.state choices
+    → IsLawfulBase k.program (record (base_of k.state) { fired = choices })

@@ -15,6 +15,7 @@ pub mod CoreLaws
 -- what the core's functions promise each other
 pub mod Matching
 pub mod Unfired
+pub mod FiredChoices
 pub mod Firing
 pub mod Turn
 pub mod Kept

@@ -1,6 +1,6 @@
 //! Laws of cores. Each function here does nothing: its contract is the law.
 
-ghost use Rattle.firing_core.specs.CoreLaws.{DroppingKeepsLawful, EventsGoOn, EventsKeepLawful, FiringKeepsLawful, FittingIsDecided};
+ghost use Rattle.firing_core.specs.CoreLaws.{DroppingKeepsLawful, EventsGoOn, EventsKeepLawful, FiredMakeBases, FiringKeepsLawful, FittingIsDecided};
 
 /// Whatever happens to a lawful core, it stays lawful and goes on.
 pub fn events_keep_lawful()
@@ -17,4 +17,10 @@ pub fn cores_stay_lawful()
 /// A candidate may be claimed only where it fits.
 pub fn fitting_is_decided()
     ensures { FittingIsDecided }
+{}
+
+/// Where a lawful core has come, a run of its program may begin anew: with its memory, its next tag and the
+/// choices that are fired.
+pub fn fired_make_bases()
+    ensures { FiredMakeBases }
 {}

@@ -8,6 +8,7 @@ pub mod examples;
 mod failing;
 mod finishing;
 mod fired;
+mod fired_choices;
 mod gone;
 mod grant;
 mod grouped;

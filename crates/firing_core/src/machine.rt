@@ -11,7 +11,10 @@ ghost use Rattle.rule_base.specs.Ending.{IsBudget};
 ghost use Rattle.rule_base.specs.Fits.{Fits};
 ghost use Rattle.interference.specs.Footprint.{footprint};
 ghost use Rattle.firing_core.specs.CoreState.{IsRunOf, ended, looked};
-ghost use Rattle.rule_base.specs.State.{has_fired};
+ghost use Rattle.rule_base.specs.State.{has_fired, same_choice};
+ghost use Rattle.rule_base.specs.declared.instantiation.Choice.{Choice};
+ghost use Rattle.std.specs.List.{list_any};
+ghost use Rattle.firing_core.specs.FiredChoices.{AreInOrder};
 ghost use Rattle.firing_core.specs.Refusals.{busy_lock, claim_refusal, crowding, failing_condition};
 ghost use Rattle.firing_core.specs.Lawful.{IsLawful};
 ghost use Rattle.firing_core.specs.declared.claims.Event.TheVariants as event;
@@ -23,6 +26,7 @@ ghost use Rattle.firing_core.specs.Firing.{IsNext, Fires, TellsFault};
 use crate::claims::{ClaimRefusal, CommitRefusal, FaultSeen, Foreign, How};
 use crate::failing::failing_condition;
 use crate::fired::is_fired;
+use crate::fired_choices::all_fired;
 use crate::gone::gone_tag;
 use crate::grant::Grant;
 use crate::grouped::Grouped;
@@ -33,7 +37,7 @@ use crate::workbench::Workbench;
 use commit_journal::{Journal, Room, room_of};
 use element_tests::Binds;
 use interference::{Splits, footprint};
-use ops_text::OutOfMemory;
+use ops_text::{OutOfMemory, Sequence};
 use refraction_index::RefractionIndex;
 use rhs_actions::{Delta, Effect, EffectRefusal, Failed, fire_into};
 use rule_base::{
@@ -297,6 +301,27 @@ impl Core {
             &self.store,
             &mut self.index,
             choice,
+            &mut self.binds,
+        )
+    }
+
+    /// The choices that are fired, in rising order of their rules' numbers and then of their tags. It takes
+    /// time n log n in the number of choices that had fired at some time, of which it makes copies, and
+    /// under `Renewed` a match for each, also beside what was born since it last fired.
+    pub fn fired(&mut self, alloc: Global) -> Result<Sequence<Choice>, OutOfMemory>
+        ensures fired { IfOk result (λ choices. (c : Choice) →
+            list_any (same_choice c) choices ≡ has_fired self.old.state c) }
+        ensures order { IfOk result AreInOrder }
+        ensures same { self.new ≡ self.old }
+    {
+        self.index.take_in(alloc, self.store.journal())?;
+        self.grouped.take_in(alloc, &self.store)?;
+        all_fired(
+            alloc,
+            &self.program,
+            &self.store,
+            &mut self.grouped,
+            &mut self.index,
             &mut self.binds,
         )
     }
