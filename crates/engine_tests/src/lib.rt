@@ -12,9 +12,13 @@ mod commits;
 #[cfg(test)]
 mod copies;
 #[cfg(test)]
+mod desk;
+#[cfg(test)]
 mod effects;
 #[cfg(test)]
 mod footprints;
+#[cfg(test)]
+mod granted;
 #[cfg(test)]
 mod places;
 #[cfg(test)]

@@ -1,0 +1,2 @@
+-- what the tests' own fixtures keep
+pub mod Desk
