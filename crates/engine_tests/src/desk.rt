@@ -40,6 +40,8 @@ pub enum Act {
     DropAll,
     /// So many entries from a place on.
     Look(u64, u32),
+    /// The tags and values of what is in working memory.
+    Memory,
     Stand,
 }
 
@@ -111,6 +113,7 @@ impl Desk {
             Act::Look(position, most) => {
                 Ok(choices(alloc, &self.core.look(alloc, position, most)?)?)
             }
+            Act::Memory => Ok(memory_of(alloc, &self.core)?),
             Act::Stand => Ok(stand_of(alloc, &self.core)?),
         }
     }
@@ -214,7 +217,7 @@ fn stand_of(alloc: Global, core: &Core) -> Result<String, OutOfMemory> {
     let elements = core.memory_len();
     let next = core.next();
     format!(in alloc;
-        "{ended:?} by {first}{fault}with {count}, {elements} elements, next {next}"
+        "{ended:?}: {first}{fault}firings {count}, elements {elements}, next {next}"
     )
 }
 
@@ -225,11 +228,23 @@ fn fault_of(alloc: Global, seen: Option<&FaultSeen>) -> Result<String, OutOfMemo
     };
     let tags = seen.choice.tags.as_slice();
     format!(in alloc;
-        "{}{tags:?} failing at {}, {:?}, ",
+        "{}{tags:?} fails at {} by {:?}, ",
         seen.choice.rule,
         seen.action,
         seen.cause
     )
+}
+
+/// The elements of a core's memory, each by its tag and its values.
+fn memory_of(alloc: Global, core: &Core) -> Result<String, OutOfMemory> {
+    let elements = core.copy_memory(alloc)?;
+    let mut text = String::new(alloc);
+    for at in 0..elements.len() {
+        let element = elements.at(at);
+        let values = element.values;
+        text.push_str(&format!(in alloc; "{}{values:?} ", element.tag)?)?;
+    }
+    Ok(text)
 }
 
 /// What a candidate would find busy.

@@ -16,9 +16,13 @@ mod desk;
 #[cfg(test)]
 mod effects;
 #[cfg(test)]
+mod endings;
+#[cfg(test)]
 mod footprints;
 #[cfg(test)]
 mod granted;
+#[cfg(test)]
+mod looks;
 #[cfg(test)]
 mod places;
 #[cfg(test)]
