@@ -164,7 +164,7 @@ pub fn desk_of(
 }
 
 /// A core of the program at its opening.
-fn core_of(
+pub fn core_of(
     alloc: Global,
     program: Arc<Program>,
     refraction: Refraction,

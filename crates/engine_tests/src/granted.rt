@@ -131,10 +131,22 @@ fn tags_that_are_1024_apart_share_a_lock(rt: HostRuntime) -> Result<(), Fail> {
     Ok(())
 }
 
-/// Claims the first rule's choices for the elements with these tags, whose numbers are to be their tags.
+/// The same, with 64 rules that halt, of which the numbers come first, and one that does nothing. Claims of
+/// different rules are told apart sooner than claims of one.
+fn with_many_rules(alloc: Global, count: usize) -> Result<String, OutOfMemory> {
+    let mut text = with_elements(alloc, count, "")?;
+    for rule in 0..64_u32 {
+        text.push_str(&format!(in alloc; "(p r{rule} (a) --> (halt))")?)?;
+    }
+    text.push_str("(p s (a) -->)")?;
+    Ok(text)
+}
+
+/// Claims choices of the 64 rules in turn for the elements with these tags, where each claim's number is to be
+/// its tag.
 fn claim_all(alloc: Global, desk: &mut Desk, first: u64, last: u64) -> Result<(), Fail> {
-    for tag in first..last {
-        let told = desk.act(alloc, Claim(0, tag, 1))?;
+    for tag in first..=last {
+        let told = desk.act(alloc, Claim((tag % 64) as u32, tag, 1))?;
         if told.as_str() != format!(in alloc; "{tag}")?.as_str() {
             return Err(Fail::new("not the next number"));
         }
@@ -142,44 +154,27 @@ fn claim_all(alloc: Global, desk: &mut Desk, first: u64, last: u64) -> Result<()
     Ok(())
 }
 
-/// What comes of acts where the claims of these tags stand, after others that come first.
-fn told_crowded(
-    alloc: Global,
-    text: &str,
-    before: &[Act],
-    tags: (u64, u64),
-    acts: &[Act],
-) -> Result<String, Fail> {
-    let mut desk = desk_of(alloc, text, Refraction::Once, 10)?;
-    desk.play(alloc, before)?;
-    claim_all(alloc, &mut desk, tags.0, tags.1)?;
-    desk.play(alloc, acts)
-}
-
 #[test]
 fn no_more_claims_stand_than_a_word_counts(rt: HostRuntime) -> Result<(), Fail> {
-    let halts = with_elements(rt.alloc(), 4096, "(p r (a) --> (halt))")?;
-    let plain = with_elements(rt.alloc(), 4097, "(p r (a) -->)")?;
-    let rows: [(&str, &[Act], (u64, u64), &[Act], &str); 2] = [
-        (
-            halts.as_str(),
-            &[],
-            (1, 4096),
-            &[Claim(0, 4096, 1), DropAll, Claim(0, 4096, 1)],
-            "Full { given: 4095, standing: 4095 }; all dropped; 1; ",
-        ),
-        // what has fired, and what is claimed, tell so first
-        (
-            plain.as_str(),
-            &[Claim(0, 1, 1), Fire(0)],
-            (2, 4097),
-            &[Claim(0, 1, 1), Claim(0, 2, 1), Claim(0, 4097, 1), Drop(0), Claim(0, 4097, 1)],
-            "Fired; Claimed { number: 2 }; Full { given: 4096, standing: 4095 }; Ok(()); 4097; ",
-        ),
+    let text = with_many_rules(rt.alloc(), 4096)?;
+    let mut desk = desk_of(rt.alloc(), text.as_str(), Refraction::Once, 10)?;
+    assert_eq!(rt;
+        desk.play(rt.alloc(), &[Claim(64, 4096, 1), Fire(0), DropAll])?.as_str(),
+        "1; Ok(0); all dropped; "
+    );
+    claim_all(rt.alloc(), &mut desk, 1, 4095)?;
+    // what has fired, and what is claimed, tell so first
+    let acts = [
+        Claim(64, 4096, 1),
+        Claim(2, 2, 1),
+        Claim(0, 4096, 1),
+        DropAll,
+        Claim(0, 4096, 1),
     ];
-    for (text, before, tags, acts, want) in rows {
-        assert_eq!(rt; told_crowded(rt.alloc(), text, before, tags, acts)?.as_str(), want);
-    }
+    assert_eq!(rt;
+        desk.play(rt.alloc(), &acts)?.as_str(),
+        "Fired; Claimed { number: 2 }; Full { given: 4095, standing: 4095 }; all dropped; 1; "
+    );
     Ok(())
 }
 
