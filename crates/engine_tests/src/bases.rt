@@ -155,7 +155,11 @@ fn a_choice_of_the_base_is_fired_while_it_matches(rt: HostRuntime) -> Result<(),
     for (refraction, want) in rows {
         let mut desk = desk_after_first(rt.alloc(), text, refraction)?;
         assert_eq!(rt; desk.core().refraction(), refraction);
-        assert_eq!(rt; desk.play(rt.alloc(), &acts)?.as_str(), want, "{refraction:?}");
+        assert_eq!(rt;
+            desk.play(rt.alloc(), &acts)?.as_str(),
+            want,
+            "{refraction:?}"
+        );
     }
     Ok(())
 }
@@ -187,7 +191,11 @@ fn so_is_a_choice_of_the_run(rt: HostRuntime) -> Result<(), Fail> {
     for (refraction, want) in rows {
         let mut desk = desk_of(rt.alloc(), text, refraction, 10)?;
         assert_eq!(rt; desk.core().refraction(), refraction);
-        assert_eq!(rt; desk.play(rt.alloc(), &acts)?.as_str(), want, "{refraction:?}");
+        assert_eq!(rt;
+            desk.play(rt.alloc(), &acts)?.as_str(),
+            want,
+            "{refraction:?}"
+        );
     }
     Ok(())
 }

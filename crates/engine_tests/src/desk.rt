@@ -187,7 +187,11 @@ fn candidate_of(
     named: (u32, u64, i64),
 ) -> Result<Candidate, Fail> {
     let (rule, tag, value) = named;
-    let Some(conds) = program.rules.get(rule as usize).map(|rule| rule.conds.as_slice()) else {
+    let Some(conds) = program
+        .rules
+        .get(rule as usize)
+        .map(|rule| rule.conds.as_slice())
+    else {
         return Err(Fail::new("no such rule"));
     };
     let Some(cond) = conds.first() else {
@@ -216,9 +220,7 @@ fn stand_of(alloc: Global, core: &Core) -> Result<String, OutOfMemory> {
     let count = core.count();
     let elements = core.memory_len();
     let next = core.next();
-    format!(in alloc;
-        "{ended:?}: {first}{fault}firings {count}, elements {elements}, next {next}"
-    )
+    format!(in alloc; "{ended:?}: {first}{fault}firings {count}, elements {elements}, next {next}")
 }
 
 /// What a fault tells.
@@ -229,9 +231,7 @@ fn fault_of(alloc: Global, seen: Option<&FaultSeen>) -> Result<String, OutOfMemo
     let tags = seen.choice.tags.as_slice();
     format!(in alloc;
         "{}{tags:?} fails at {} by {:?}, ",
-        seen.choice.rule,
-        seen.action,
-        seen.cause
+        seen.choice.rule, seen.action, seen.cause
     )
 }
 

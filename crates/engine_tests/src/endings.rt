@@ -22,7 +22,13 @@ fn a_claim_ends_by_its_own_grant_and_firing(rt: HostRuntime) -> Result<(), Fail>
     let rows: [(&[Act], &str); 10] = [
         // of another number, of another element, of another rule
         (
-            &[Claim(0, 1, 1), Elsewhere(0, 1, 1), Elsewhere(0, 2, 2), Fire(2), Claim(0, 1, 1)],
+            &[
+                Claim(0, 1, 1),
+                Elsewhere(0, 1, 1),
+                Elsewhere(0, 2, 2),
+                Fire(2),
+                Claim(0, 1, 1),
+            ],
             "1; 1; 2; Err(Foreign); Claimed { number: 1 }; ",
         ),
         (
@@ -34,19 +40,40 @@ fn a_claim_ends_by_its_own_grant_and_firing(rt: HostRuntime) -> Result<(), Fail>
             "1; 1; Err(Foreign); Claimed { number: 1 }; ",
         ),
         // of a core where a claim stands, where none stands here
-        (&[Elsewhere(0, 1, 1), Fire(0), Claim(0, 1, 1)], "1; Err(Foreign); 1; "),
+        (
+            &[Elsewhere(0, 1, 1), Fire(0), Claim(0, 1, 1)],
+            "1; Err(Foreign); 1; ",
+        ),
         // with the firing of another element, or of another rule
         (
-            &[Claim(0, 1, 1), Claim(0, 2, 2), Mix(0, 1), Claim(0, 1, 1), Claim(0, 2, 2)],
+            &[
+                Claim(0, 1, 1),
+                Claim(0, 2, 2),
+                Mix(0, 1),
+                Claim(0, 1, 1),
+                Claim(0, 2, 2),
+            ],
             "1; 2; Err(Foreign); Claimed { number: 1 }; Claimed { number: 2 }; ",
         ),
         (
-            &[Claim(0, 1, 1), Claim(1, 1, 1), Mix(0, 1), Claim(0, 1, 1), Claim(1, 1, 1)],
+            &[
+                Claim(0, 1, 1),
+                Claim(1, 1, 1),
+                Mix(0, 1),
+                Claim(0, 1, 1),
+                Claim(1, 1, 1),
+            ],
             "1; 2; Err(Foreign); Claimed { number: 1 }; Claimed { number: 2 }; ",
         ),
         // dropped by a grant of another number, or of another element
         (
-            &[Claim(0, 1, 1), Elsewhere(0, 1, 1), Elsewhere(0, 2, 2), Drop(2), Claim(0, 1, 1)],
+            &[
+                Claim(0, 1, 1),
+                Elsewhere(0, 1, 1),
+                Elsewhere(0, 2, 2),
+                Drop(2),
+                Claim(0, 1, 1),
+            ],
             "1; 1; 2; Err(Foreign); Claimed { number: 1 }; ",
         ),
         (
@@ -55,13 +82,26 @@ fn a_claim_ends_by_its_own_grant_and_firing(rt: HostRuntime) -> Result<(), Fail>
         ),
         // dropped by a grant of the same number and choice, after which its own grant drops nothing
         (
-            &[Claim(0, 1, 1), Elsewhere(0, 1, 1), Drop(1), Drop(0), Claim(0, 1, 1)],
+            &[
+                Claim(0, 1, 1),
+                Elsewhere(0, 1, 1),
+                Drop(1),
+                Drop(0),
+                Claim(0, 1, 1),
+            ],
             "1; 1; Ok(()); Err(Foreign); 2; ",
         ),
-        (&[Claim(0, 1, 1), Drop(0), Claim(0, 1, 1), Claim(0, 2, 2)], "1; Ok(()); 2; 3; "),
+        (
+            &[Claim(0, 1, 1), Drop(0), Claim(0, 1, 1), Claim(0, 2, 2)],
+            "1; Ok(()); 2; 3; ",
+        ),
     ];
     for (acts, want) in rows {
-        assert_eq!(rt; told(rt.alloc(), writes, 9, acts)?.as_str(), want, "commits");
+        assert_eq!(rt;
+            told(rt.alloc(), writes, 9, acts)?.as_str(),
+            want,
+            "commits"
+        );
         assert_eq!(rt; told(rt.alloc(), fails, 9, acts)?.as_str(), want, "faults");
     }
     Ok(())
@@ -138,10 +178,22 @@ fn a_core_tells_how_it_has_ended(rt: HostRuntime) -> Result<(), Fail> {
     let begun = "None: firings 0, elements 2, next 3; 1; ";
     let rows = [
         (0, 9, "Ok(0); None: 0[1] firings 1, elements 1, next 3; "),
-        (0, 1, "Ok(0); Some(Budget): 0[1] firings 1, elements 1, next 3; "),
-        (1, 9, "Ok(0); Some(Halted): 1[1] firings 1, elements 1, next 3; "),
+        (
+            0,
+            1,
+            "Ok(0); Some(Budget): 0[1] firings 1, elements 1, next 3; ",
+        ),
+        (
+            1,
+            9,
+            "Ok(0); Some(Halted): 1[1] firings 1, elements 1, next 3; ",
+        ),
         // the halt counts first
-        (1, 1, "Ok(0); Some(Halted): 1[1] firings 1, elements 1, next 3; "),
+        (
+            1,
+            1,
+            "Ok(0); Some(Halted): 1[1] firings 1, elements 1, next 3; ",
+        ),
         (
             2,
             9,

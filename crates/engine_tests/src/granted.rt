@@ -32,7 +32,11 @@ fn a_claim_finds_what_others_took(rt: HostRuntime) -> Result<(), Fail> {
         ),
         // values whose remainders by 16 differ, and two whose remainders don't
         (apart, &[Claim(0, 1, 7), Claim(0, 2, 8)], "1; 2; "),
-        (together, &[Claim(0, 1, 7), Claim(0, 2, 23)], "1; lock 1047 has 1099511627776; "),
+        (
+            together,
+            &[Claim(0, 1, 7), Claim(0, 2, 23)],
+            "1; lock 1047 has 1099511627776; ",
+        ),
         // an element that has gone, and what has come in its place; its claim is not of the other core's firing
         (
             down,
@@ -71,11 +75,27 @@ fn a_claim_is_refused_for_the_first_reason(rt: HostRuntime) -> Result<(), Fail> 
         (
             takes,
             1,
-            &[Claim(0, 1, 1), Claim(0, 2, 2), Fire(1), Claim(0, 1, 1), Claim(0, 2, 2)],
+            &[
+                Claim(0, 1, 1),
+                Claim(0, 2, 2),
+                Fire(1),
+                Claim(0, 1, 1),
+                Claim(0, 2, 2),
+            ],
             "1; 2; Ok(0); lock 1 has 1099511627776; Ended(Budget); ",
         ),
-        (halts, 9, &[Claim(0, 1, 1), Fire(0), Claim(0, 1, 1)], "1; Ok(0); Ended(Halted); "),
-        (fails, 9, &[Claim(0, 1, 1), Fire(0), Claim(0, 9, 1)], "1; Ok(()); Ended(Fault); "),
+        (
+            halts,
+            9,
+            &[Claim(0, 1, 1), Fire(0), Claim(0, 1, 1)],
+            "1; Ok(0); Ended(Halted); ",
+        ),
+        (
+            fails,
+            9,
+            &[Claim(0, 1, 1), Fire(0), Claim(0, 9, 1)],
+            "1; Ok(()); Ended(Fault); ",
+        ),
         // the element is another, or isn't there, and doesn't match; it is there, and doesn't
         (
             picks,
@@ -83,7 +103,12 @@ fn a_claim_is_refused_for_the_first_reason(rt: HostRuntime) -> Result<(), Fail> 
             &[Claim(0, 1, 2), Claim(0, 2000, 1), Claim(0, 1, 1)],
             "Gone { tag: 1 }; Gone { tag: 2000 }; Unmatched { condition: 1 }; ",
         ),
-        (blocked, 9, &[Claim(0, 1, 1)], "Unmatched { condition: 2 }; "),
+        (
+            blocked,
+            9,
+            &[Claim(0, 1, 1)],
+            "Unmatched { condition: 2 }; ",
+        ),
         // it doesn't match, and has fired
         (
             grows,
@@ -99,7 +124,11 @@ fn a_claim_is_refused_for_the_first_reason(rt: HostRuntime) -> Result<(), Fail> 
         ),
     ];
     for (text, budget, acts, want) in rows {
-        assert_eq!(rt; told(rt.alloc(), text, budget, acts)?.as_str(), want, "{text}");
+        assert_eq!(rt;
+            told(rt.alloc(), text, budget, acts)?.as_str(),
+            want,
+            "{text}"
+        );
     }
     Ok(())
 }
@@ -159,7 +188,8 @@ fn no_more_claims_stand_than_a_word_counts(rt: HostRuntime) -> Result<(), Fail> 
     let text = with_many_rules(rt.alloc(), 4096)?;
     let mut desk = desk_of(rt.alloc(), text.as_str(), Refraction::Once, 10)?;
     assert_eq!(rt;
-        desk.play(rt.alloc(), &[Claim(64, 4096, 1), Fire(0), DropAll])?.as_str(),
+        desk.play(rt.alloc(), &[Claim(64, 4096, 1), Fire(0), DropAll])?
+            .as_str(),
         "1; Ok(0); all dropped; "
     );
     claim_all(rt.alloc(), &mut desk, 1, 4095)?;
@@ -187,7 +217,15 @@ fn numbers_and_tags_follow_their_calls(rt: HostRuntime) -> Result<(), Fail> {
         // the old grants are of other claims then: the first is of another choice, the second has another number
         (
             plain,
-            &[Claim(0, 1, 1), Claim(0, 2, 2), DropAll, Claim(0, 2, 2), Fire(0), Fire(0), Fire(0)],
+            &[
+                Claim(0, 1, 1),
+                Claim(0, 2, 2),
+                DropAll,
+                Claim(0, 2, 2),
+                Fire(0),
+                Fire(0),
+                Fire(0),
+            ],
             "1; 2; all dropped; 1; Err(Foreign); Err(Foreign); Ok(0); ",
         ),
         (
@@ -205,7 +243,14 @@ fn numbers_and_tags_follow_their_calls(rt: HostRuntime) -> Result<(), Fail> {
         // the claim that is committed first gets the first tag
         (
             raises,
-            &[Claim(0, 1, 1), Claim(0, 2, 2), Fire(1), Fire(0), Look(0, 9), Memory],
+            &[
+                Claim(0, 1, 1),
+                Claim(0, 2, 2),
+                Fire(1),
+                Fire(0),
+                Look(0, 9),
+                Memory,
+            ],
             "1; 2; Ok(0); Ok(1); 0[2] 0[1] ; 3[Int(12)] 4[Int(11)] ; ",
         ),
     ];

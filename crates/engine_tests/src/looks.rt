@@ -9,7 +9,10 @@ use std::test::Fail;
 fn a_look_begins_and_ends_where_the_journal_does(rt: HostRuntime) -> Result<(), Fail> {
     let text = "(literalize a x)(make a ^x 1)(make a ^x 2)(make a ^x 3)(p r (a) -->)";
     let mut desk = desk_of(rt.alloc(), text, Refraction::Once, 9)?;
-    assert_eq!(rt; desk.play(rt.alloc(), &[Look(0, 1), Look(1, 1)])?.as_str(), "; ; ");
+    assert_eq!(rt;
+        desk.play(rt.alloc(), &[Look(0, 1), Look(1, 1)])?.as_str(),
+        "; ; "
+    );
     let acts = [
         Claim(0, 1, 1),
         Fire(0),
