@@ -342,10 +342,13 @@ fn fired(
     ensures program { core.new.program ≡ core.old.program }
     ensures hand { AreOf core.old.program hand.new.items }
 {
-    if hand.len() <= place || hand.len() <= firing {
+    let Some(other) = hand.as_slice().get(firing) else {
+        return Err(Fail::new("no such grant in hand"));
+    };
+    let outcome = outcome_of(alloc, other)?;
+    if hand.len() <= place {
         return Err(Fail::new("no such grant in hand"));
     }
-    let outcome = outcome_of(alloc, &hand[firing])?;
     let grant = hand.remove(place);
     core.count();
     match outcome {
