@@ -1,37 +1,23 @@
 //! Why candidates can't be claimed, and how far a core tells that its run has come: at the beginning of a run and at
 //! its end. No claim stands.
 
-ghost use Rattle.std.specs.Prelude.{◌^◌, ◌<◌, length};
-ghost use Rattle.rule_base.specs.Ending.{IsBudget};
-ghost use Rattle.rule_base.specs.Sound.{IsSound};
-
+use crate::desk::core_of;
 use crate::runs::choices;
-use crate::setting::{opening_of, program_of};
+use crate::setting::program_of;
 use firing_core::{Core, finish};
 use ops_text::{OutOfMemory, Sequence};
-use rule_base::{Base, Candidate, Choice, ElementView, Elements, Program, Refraction, Value};
+use rule_base::{Candidate, Choice, ElementView, Elements, Refraction, Value};
 use std::alloc::Global;
 use std::sync::Arc;
 use std::test::Fail;
 
-/// A core of the program at its opening.
-fn core_from_opening(alloc: Global, program: Program, budget: u64) -> Result<Core, Fail>
-    requires sound { IsSound program }
-    requires few_makes { length program.makes < 2 ^ 32 }
-    requires budget { IsBudget budget }
-{
-    let opening = opening_of(alloc, &program)?;
-    let base = Base::opening(alloc, opening, Refraction::Once);
-    Ok(Core::new(alloc, Arc::new(alloc, program)?, base, budget)?)
-}
-
 /// A core of the program of a text at its opening.
-fn core_of(alloc: Global, text: &str, budget: u64) -> Result<Core, Fail> {
-    if text.len() >= 1000 || budget < 1 || 4_000_000 < budget {
+fn core_of_text(alloc: Global, text: &str, budget: u64) -> Result<Core, Fail> {
+    if text.len() >= 100_000 || budget < 1 || 4_000_000 < budget {
         return Err(Fail::new("a text too long, or no budget"));
     }
-    let program = program_of(alloc, text)?;
-    core_from_opening(alloc, program, budget)
+    let program = Arc::new(alloc, program_of(alloc, text)?)?;
+    core_of(alloc, program, Refraction::Once, budget)
 }
 
 /// The candidate of a rule for an element of the class with number 0, of which the tag and the one value are given.
@@ -76,7 +62,7 @@ fn told_refusals(
     budget: u64,
     named: (u32, u64, i64),
 ) -> Result<String, Fail> {
-    let core = core_of(alloc, text, budget)?;
+    let core = core_of_text(alloc, text, budget)?;
     let candidate = candidate_of(alloc, named.0, named.1, named.2)?;
     refusals_of(alloc, core, &candidate)
 }
@@ -177,7 +163,7 @@ fn end_of(alloc: Global, core: Core) -> Result<String, OutOfMemory> {
 /// What the candidate of the rule with number 0 for the element with tag 1 finds busy in a core of the program of a text,
 /// how the core stands, and how it stands after its run.
 fn told_stands(alloc: Global, text: &str, budget: u64) -> Result<String, Fail> {
-    let core = core_of(alloc, text, budget)?;
+    let core = core_of_text(alloc, text, budget)?;
     let candidate = candidate_of(alloc, 0, 1, 1)?;
     let busy = busy_of(alloc, &core, &candidate)?;
     let before = stand_of(alloc, &core)?;

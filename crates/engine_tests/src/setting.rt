@@ -13,7 +13,7 @@ use std::test::Fail;
 
 /// The forms of a text whose names are all new.
 fn forms_of(alloc: Global, text: &str) -> Result<Forms, FormsRefusal>
-    requires { length text.now < 1000 }
+    requires { length text.now < 100000 }
 {
     let mut symbols = Symbols::new(alloc)?;
     read_forms(alloc, text.as_bytes(), &mut symbols)
@@ -21,7 +21,7 @@ fn forms_of(alloc: Global, text: &str) -> Result<Forms, FormsRefusal>
 
 /// The program of a text.
 pub fn program_of(alloc: Global, text: &str) -> Result<Program, Fail>
-    requires { length text.now < 1000 }
+    requires { length text.now < 100000 }
     ensures sound { IfOk result IsSound }
     ensures few_makes { IfOk result (λ program. length program.makes < 2 ^ 32) }
 {

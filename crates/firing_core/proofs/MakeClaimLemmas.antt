@@ -153,13 +153,13 @@ core_reserved before store has = λ i. record {
   base = has.base i;
   budget = before.budget;
   state = record {
-      memory = at_places (came (has.base i) (has.entries i)) (has.places i);
-      next = has.next i;
-      fired = fired_in before.program.value (has.base i) (has.entries i);
-      entries = has.entries i;
-      halted = before.halted;
-      refraction = (has.base i).refraction;
-    };
+    memory = at_places (came (has.base i) (has.entries i)) (has.places i);
+    next = has.next i;
+    fired = fired_in before.program.value (has.base i) (has.entries i);
+    entries = has.entries i;
+    halted = before.halted;
+    refraction = (has.base i).refraction;
+  };
   claims = before.claims.claims;
   given = before.claims.given;
   fault = before.fault;

@@ -1,0 +1,201 @@
+//! Bases on which a choice has fired before the run begins, and what claims of such a choice find.
+
+ghost use Rattle.std.specs.Prelude.{◌≡◌, ◌^◌, ◌<◌, ◌≤◌, IfOk, IsTrue, length, true};
+ghost use Rattle.std.specs.Bool.{OnTrue};
+ghost use Rattle.rule_base.specs.Base.{IsLawfulBase};
+ghost use Rattle.rule_base.specs.Ending.{IsBudget};
+ghost use Rattle.rule_base.specs.Opening.{IsOpening};
+ghost use Rattle.rule_base.specs.Sound.{IsSound, sizes_of};
+ghost use Rattle.rule_base.specs.Step.{is_listed};
+ghost use Rattle.engine_tests.specs.Bases.{HasOnePositive, first};
+
+use crate::desk::Act::{Claim, Fire};
+use crate::desk::{Act, Desk, core_of, desk_of};
+use crate::setting::{opening_of, program_of};
+use firing_core::Core;
+use ops_text::{OutOfMemory, Sequence};
+use rule_base::{Base, Candidate, Choice, Elements, Program, Refraction};
+use std::alloc::Global;
+use std::sync::Arc;
+use std::test::Fail;
+
+/// Whether the rule with number 0 has one positive condition element.
+fn has_one_positive(program: &Program) -> bool
+    ensures { OnTrue result (HasOnePositive program.now) }
+{
+    match program.rules.get(0) {
+        Some(rule) => rule.positives == 1,
+        None => false,
+    }
+}
+
+/// The choice of the rule with number 0 for the element with tag 1.
+fn first_choice(alloc: Global) -> Result<Choice, OutOfMemory>
+    ensures { IfOk result (λ choice. choice ≡ first) }
+{
+    let mut tags = Sequence::new(alloc);
+    tags.push(1)?;
+    Ok(Choice { rule: 0, tags })
+}
+
+/// That choice, with the first of the elements.
+fn first_candidate(alloc: Global, elements: &Elements) -> Result<Candidate, OutOfMemory>
+    requires { 1 ≤ length elements.now }
+    ensures { IfOk result (λ candidate. candidate.choice ≡ first) }
+{
+    let mut its_elements = Elements::new(alloc);
+    its_elements.push(elements.at(0))?;
+    Ok(Candidate {
+        choice: first_choice(alloc)?,
+        elements: its_elements,
+    })
+}
+
+/// Whether a core at this opening lets the first choice be claimed, which then matches.
+fn matches_first(
+    alloc: Global,
+    program: Arc<Program>,
+    elements: Elements,
+) -> Result<bool, OutOfMemory>
+    requires sound { IsSound program.value }
+    requires opening { IsOpening (sizes_of program.value.classes) elements }
+    requires some { 1 ≤ length elements }
+    ensures { IfOk result (λ is. IsTrue is → is_listed program.value elements first ≡ true) }
+{
+    let candidate = first_candidate(alloc, &elements)?;
+    let base = Base::opening(alloc, elements, Refraction::Once);
+    let mut core = Core::new(alloc, program, base, 1)?;
+    if !candidate.fits(core.program()) {
+        return Ok(false);
+    }
+    core.count();
+    let is_granted = core.claim(alloc, &candidate).is_ok();
+    core.count();
+    Ok(is_granted)
+}
+
+/// The base with these elements on which the first choice has fired.
+fn base_after_first(
+    alloc: Global,
+    program: &Program,
+    elements: Elements,
+    refraction: Refraction,
+) -> Result<Base, OutOfMemory>
+    requires opening { IsOpening (sizes_of program.now.classes) elements }
+    requires positive { HasOnePositive program.now }
+    requires some { 1 ≤ length elements }
+    requires listed { is_listed program.now elements first ≡ true }
+    ensures { IfOk result (IsLawfulBase program.now) }
+{
+    let mut base = Base::opening(alloc, elements, refraction);
+    base.fired.push(first_choice(alloc)?)?;
+    Ok(base)
+}
+
+/// A core at the program's opening, on which the first choice has fired.
+pub fn core_after_first(
+    alloc: Global,
+    program: Arc<Program>,
+    refraction: Refraction,
+    budget: u64,
+) -> Result<Core, Fail>
+    requires sound { IsSound program.value }
+    requires few_makes { length program.value.makes < 2 ^ 32 }
+    requires budget { IsBudget budget }
+    ensures { IfOk result (λ core. core.program ≡ program.value) }
+{
+    let elements = opening_of(alloc, &program)?;
+    if elements.is_empty() || !has_one_positive(&program) {
+        return Err(Fail::new("no first choice"));
+    }
+    if !matches_first(alloc, Arc::try_clone(&program)?, elements.copy(alloc)?)? {
+        return Err(Fail::new("the first choice doesn't match"));
+    }
+    let base = base_after_first(alloc, &program, elements, refraction)?;
+    Ok(Core::new(alloc, program, base, budget)?)
+}
+
+/// A desk where the core at work begins so.
+fn desk_after_first(alloc: Global, text: &str, refraction: Refraction) -> Result<Desk, Fail> {
+    if text.len() >= 100_000 {
+        return Err(Fail::new("a text too long"));
+    }
+    let program = Arc::new(alloc, program_of(alloc, text)?)?;
+    let other = core_of(alloc, Arc::try_clone(&program)?, refraction, 10)?;
+    let core = core_after_first(alloc, program, refraction, 10)?;
+    Ok(Desk::new(alloc, core, other))
+}
+
+#[test]
+fn a_choice_of_the_base_is_fired_while_it_matches(rt: HostRuntime) -> Result<(), Fail> {
+    let text = "(literalize a x)(literalize b x)(literalize c x)(make a ^x 1)(make c ^x 1)\
+        (p tick (a) -(b) --> (write tick))\
+        (p grow (c) --> (make b ^x 1))\
+        (p clear (b) --> (remove 1))";
+    // what grows stops the first choice from matching, until it is cleared away
+    let acts = [
+        Claim(0, 1, 1),
+        Claim(1, 2, 1),
+        Fire(0),
+        Claim(0, 1, 1),
+        Claim(2, 3, 1),
+        Fire(0),
+        Claim(0, 1, 1),
+    ];
+    let rows = [
+        (
+            Refraction::Once,
+            "Fired; 1; Ok(0); Unmatched { condition: 2 }; 2; Ok(1); Fired; ",
+        ),
+        (
+            Refraction::Renewed,
+            "Fired; 1; Ok(0); Unmatched { condition: 2 }; 2; Ok(1); 3; ",
+        ),
+    ];
+    for (refraction, want) in rows {
+        let mut desk = desk_after_first(rt.alloc(), text, refraction)?;
+        assert_eq!(rt; desk.core().refraction(), refraction);
+        assert_eq!(rt;
+            desk.play(rt.alloc(), &acts)?.as_str(),
+            want,
+            "{refraction:?}"
+        );
+    }
+    Ok(())
+}
+
+#[test]
+fn so_is_a_choice_of_the_run(rt: HostRuntime) -> Result<(), Fail> {
+    let text = "(literalize a x)(literalize b x)(make a ^x 1)\
+        (p tick (a) -(b) --> (write tick) (make b ^x 1))\
+        (p clear (b) --> (write clear) (remove 1))";
+    let acts: [Act; 7] = [
+        Claim(0, 1, 1),
+        Fire(0),
+        Claim(0, 1, 1),
+        Claim(1, 2, 1),
+        Fire(0),
+        Claim(1, 2, 1),
+        Claim(0, 1, 1),
+    ];
+    let rows = [
+        (
+            Refraction::Once,
+            "1; Ok(0); Unmatched { condition: 2 }; 2; Ok(1); Gone { tag: 2 }; Fired; ",
+        ),
+        (
+            Refraction::Renewed,
+            "1; Ok(0); Unmatched { condition: 2 }; 2; Ok(1); Gone { tag: 2 }; 3; ",
+        ),
+    ];
+    for (refraction, want) in rows {
+        let mut desk = desk_of(rt.alloc(), text, refraction, 10)?;
+        assert_eq!(rt; desk.core().refraction(), refraction);
+        assert_eq!(rt;
+            desk.play(rt.alloc(), &acts)?.as_str(),
+            want,
+            "{refraction:?}"
+        );
+    }
+    Ok(())
+}
