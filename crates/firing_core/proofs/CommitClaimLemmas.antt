@@ -1,26 +1,22 @@
 -- The commit of a claim: there is room for it, and the core is as its event says.
-use Rattle.std.proofs.Common.{◌≡◌, ℕ, ◌+◌, ◌*◌, ◌<◌, ◌≤◌, List, [], ◌∷◌, ◌++◌, Bool, true, false, cond, if◌then◌else◌, ◌||◌, not, Option, None, Ok, Some, filter, find, is_none, length, option_map, slice_get, suc, suc-mul, ◌==◌, refl, sym, ◌∙◌, ap, subst, arith}
+use Rattle.std.proofs.Common.{◌≡◌, ◌+◌, ◌*◌, ◌<◌, ◌≤◌, List, [], ◌∷◌, ◌++◌, Bool, true, false, cond, if◌then◌else◌, ◌||◌, not, Option, None, Ok, Some, filter, find, is_none, length, option_map, slice_get, suc, suc-mul, ◌==◌, refl, sym, ◌∙◌, ap, subst, arith}
 use Rattle.std.proofs.Math.Nat.{mul-le-mul_right}
 use Rattle.std.proofs.lemmas.List.{length_push}
 use Rattle.std.specs.List.{AllByRecursion}
-use Rattle.rule_base.specs.declared.base.Base.{Base}
 use Rattle.rule_base.specs.declared.element.Element.{Element}
-use Rattle.rule_base.specs.declared.entry.Entry.{Entry}
 use Rattle.rule_base.specs.declared.instantiation.Choice.{Choice}
 use Rattle.rule_base.specs.declared.program.Rule.{Rule}
 use Rattle.rule_base.specs.Effect.{Effect, effect, removed_tags}
 use Rattle.rule_base.specs.Fits.{Fits}
 use Rattle.rule_base.specs.Memory.{HasSize, elements_at, tags_of}
 use Rattle.rule_base.specs.Sound.{sizes_of}
-use Rattle.rule_base.specs.State.{State, count}
-use Rattle.rule_base.specs.Step.{born, effect_of, entry_of, may_fire, step, without}
+use Rattle.rule_base.specs.State.{count}
+use Rattle.rule_base.specs.Step.{born, effect_of, entry_of, step, without}
 use Rattle.rule_base.proofs.AmongLemmas.{Among, IsFound-find}
 use Rattle.rule_base.proofs.EachLemmas.{Each-append}
 use Rattle.rule_base.proofs.MachineLemmas.{IsKeepingStep-sound}
-use Rattle.rule_base.proofs.RunLemmas.{refraction-step}
 use Rattle.commit_journal.specs.Entries.{born_in}
 use Rattle.commit_journal.specs.declared.room.Room.{Room}
-use Rattle.commit_journal.specs.ProgramRoom.{room_of}
 use Rattle.commit_journal.specs.Room.{FitsIn, room_for, room_times, room_without}
 use Rattle.commit_journal.proofs.ProgramRoomLemmas.{fits}
 use Rattle.commit_journal.proofs.RoomLemmas.{FitsIn-room_times-less, FitsIn-room_times-one, FitsIn-room_times-without}
@@ -30,7 +26,7 @@ use Rattle.standing_claims.specs.Standing.{Standing}
 use Rattle.firing_core.specs.declared.claims.Event.TheVariants as event
 use Rattle.firing_core.specs.declared.machine.Core.TheInside.{Inside}
 use Rattle.firing_core.specs.CoreFields.{HoldsKept, core_in, state_in}
-use Rattle.firing_core.specs.CoreState.{CoreState, ended}
+use Rattle.firing_core.specs.CoreState.{ended}
 use Rattle.firing_core.specs.Events.{apply, with_state, without_claim}
 use Rattle.firing_core.specs.Grants.{Granted}
 use Rattle.firing_core.specs.Kept.{IsKept}
@@ -41,7 +37,7 @@ use Rattle.firing_core.proofs.PairLemmas.{length-filter}
 use Rattle.firing_core.proofs.FieldLemmas.{sized-born, step-fields}
 use Rattle.firing_core.proofs.FireLemmas.{born_in-push, index_after}
 use Rattle.firing_core.proofs.GroupedLemmas.{IsGrouping-later}
-use Rattle.firing_core.proofs.GrantLemmas.{IsClaimOf, StandsFor, committed, held, may_fire-held}
+use Rattle.firing_core.proofs.GrantLemmas.{StandsFor, committed, held, may_fire-held}
 use Rattle.firing_core.proofs.KeptLemmas.{IsWithout, fitting_left, footprints_left}
 
 -- the fields before the commit of a claim, its grant, and its effect

@@ -1,5 +1,5 @@
 -- The failure of a claim's firing: the core is as its event says.
-use Rattle.std.proofs.Common.{◌≡◌, ℕ, None, Some, Err, length, sym, ◌∙◌, ap, subst}
+use Rattle.std.proofs.Common.{◌≡◌, None, Some, Err, length, sym, ◌∙◌, ap}
 use Rattle.rule_base.specs.Effect.{Failure}
 use Rattle.rule_base.specs.Step.{effect_of}
 use Rattle.standing_claims.specs.Standing.{Standing}
@@ -7,10 +7,9 @@ use Rattle.firing_core.specs.declared.claims.Event.TheVariants as event
 use Rattle.firing_core.specs.declared.claims.FaultSeen.{FaultSeen}
 use Rattle.firing_core.specs.declared.machine.Core.TheInside.{Inside}
 use Rattle.firing_core.specs.CoreFields.{HoldsKept, core_in}
-use Rattle.firing_core.specs.CoreState.{CoreState, ended}
+use Rattle.firing_core.specs.CoreState.{ended}
 use Rattle.firing_core.specs.Events.{apply}
 use Rattle.firing_core.specs.Grants.{Granted}
-use Rattle.firing_core.specs.Kept.{IsKept}
 use Rattle.firing_core.specs.Store.{memory_in}
 use Rattle.firing_core.proofs.EventLemmas.{IsLawful-apply}
 use Rattle.firing_core.proofs.GrantLemmas.{StandsFor, faulted, with_fault}

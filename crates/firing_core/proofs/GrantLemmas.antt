@@ -1,6 +1,6 @@
 -- The claim of a grant: what it is, and what comes of the events that end it.
 use lib.Pointwise.{pointwise}
-use Rattle.std.proofs.Common.{◌≡◌, ℕ, ◌<◌, List, [], ◌∷◌, Bool, true, false, ◌&&◌, not, Option, Some, None, Ok, Err, Result, is_none, is_some, length, option_and_then, option_map, slice_get, ◌==◌, get_or, refl, sym, ◌∙◌, ap, subst}
+use Rattle.std.proofs.Common.{◌≡◌, ℕ, ◌<◌, List, Bool, true, false, ◌&&◌, Option, Some, None, Err, Result, is_none, is_some, length, option_and_then, option_map, slice_get, ◌==◌, refl, sym, ◌∙◌, ap, subst}
 use Rattle.std.specs.Bool.{Decides}
 use Rattle.std.specs.Option.{option_map_or}
 use Rattle.std.proofs.lemmas.Bool.Decides.{Decides-eqb}
@@ -15,7 +15,7 @@ use Rattle.rule_base.specs.Effect.{Effect, Failure, effect}
 use Rattle.rule_base.specs.Memory.{elements_at}
 use Rattle.rule_base.specs.State.{State, has_fired, same_choice}
 use Rattle.rule_base.specs.Step.{effect_of, matches, may_fire, step}
-use Rattle.rule_base.proofs.AmongLemmas.{Among, IsFound-find}
+use Rattle.rule_base.proofs.AmongLemmas.{IsFound-find}
 use Rattle.rule_base.proofs.ChoiceLemmas.{same_choice-equal}
 use Rattle.rhs_actions.specs.Outcomes.{no_rule, rule_at}
 use Rattle.interference.specs.PhantomLaw.{IsReady}
@@ -36,7 +36,7 @@ use Rattle.firing_core.specs.Grants.{Granted}
 use Rattle.firing_core.specs.Lawful.{IsHeld, IsLawful}
 use Rattle.rule_base.specs.Value.{same_value}
 use Rattle.firing_core.specs.Refusals.{same_element}
-use Rattle.firing_core.proofs.ClaimLemmas.{IsGoing, IsGoing-ended, same_element-equal, same_value-Decides}
+use Rattle.firing_core.proofs.ClaimLemmas.{IsGoing-ended, same_element-equal, same_value-Decides}
 use Rattle.firing_core.proofs.EventLemmas.{IsState-lawful}
 
 -- a claim that stands, of the grant's number and choice

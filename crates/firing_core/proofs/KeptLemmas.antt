@@ -1,14 +1,10 @@
 -- What a core's fields keep, and what they hold, where a claim has come or gone.
-use Rattle.std.proofs.Common.{◌≡◌, ℕ, ◌+◌, ◌*◌, ◌≤◌, List, [], ◌∷◌, ◌++◌, not, Some, length, map, ◌==◌, refl, sym, ◌∙◌, ap, subst, arith}
+use Rattle.std.proofs.Common.{◌≡◌, ℕ, ◌*◌, ◌≤◌, List, [], not, length, map, ◌==◌, sym, ◌∙◌, ap, subst, arith}
 use Rattle.std.specs.List.{AllByRecursion}
 use Rattle.std.proofs.Math.Nat.{mul-le-mul_right}
 use Rattle.rule_base.proofs.EachLemmas.{Each-filter}
 use Rattle.rule_base.specs.declared.lock.Mode.{Mode}
 use Rattle.rule_base.specs.Fits.{Fits}
-use Rattle.rule_base.specs.Sound.{sizes_of}
-use Rattle.rule_base.specs.State.{IsState, State, count}
-use Rattle.rule_base.specs.Step.{step}
-use Rattle.rule_base.proofs.MachineLemmas.{IsKeepingStep-sound}
 use Rattle.commit_journal.specs.declared.room.Room.{Room}
 use Rattle.commit_journal.specs.Room.{FitsIn, room_times}
 use Rattle.commit_journal.proofs.RoomLemmas.{FitsIn-room_times-less}
@@ -18,10 +14,8 @@ use Rattle.standing_claims.specs.Standing.{Standing, claims_without, footprints_
 use Rattle.standing_claims.proofs.StandingLemmas.{footprints_without-by}
 use Rattle.firing_core.specs.declared.machine.Core.TheInside.{Inside}
 use Rattle.firing_core.specs.CoreFields.{HoldsKept, core_in}
-use Rattle.firing_core.specs.CoreState.{CoreState}
 use Rattle.firing_core.specs.Events.{without_claim, without_claims}
 use Rattle.firing_core.specs.Kept.{IsKept}
-use Rattle.firing_core.specs.Lawful.{IsLawful}
 use Rattle.firing_core.proofs.EventLemmas.{IsLawful-dropped, IsLawful-without_claims}
 use Rattle.firing_core.proofs.PairLemmas.{length-filter}
 

@@ -1,5 +1,5 @@
 -- The claim of a candidate that nothing refuses: its grant may fire, and the core is as its event says.
-use Rattle.std.proofs.Common.{◌≡◌, ℕ, ◌+◌, ◌*◌, ◌<◌, ◌≤◌, List, [], ◌∷◌, ◌++◌, Bool, true, ◌&&◌, Option, IsSome, None, Some, is_none, inl, length, map, option_map, slice_get, suc, take, refl, sym, ◌∙◌, ap, subst, arith}
+use Rattle.std.proofs.Common.{◌≡◌, ℕ, ◌+◌, ◌*◌, ◌≤◌, List, [], ◌∷◌, ◌++◌, ◌&&◌, IsSome, None, Some, is_none, inl, length, map, refl, sym, ◌∙◌, ap, subst, arith}
 use Rattle.std.specs.List.{AllByRecursion}
 use Rattle.std.proofs.lemmas.List.{length_push, map_push}
 use Rattle.std.proofs.lemmas.Option.{get_or_from_slice_get, slice_get_within}
@@ -13,7 +13,7 @@ use Rattle.rule_base.specs.ElementMatch.{bindings_with}
 use Rattle.rule_base.specs.Fits.{Fits}
 use Rattle.rule_base.specs.Memory.{HasSize, elements_at}
 use Rattle.rule_base.specs.Sound.{sizes_of}
-use Rattle.rule_base.proofs.AmongLemmas.{Among, Among-append_right}
+use Rattle.rule_base.proofs.AmongLemmas.{Among-append_right}
 use Rattle.rule_base.proofs.EachLemmas.{Each-append}
 use Rattle.rhs_actions.specs.Outcomes.{no_rule, rule_at}
 use Rattle.commit_journal.specs.declared.room.Room.{Room}
@@ -23,19 +23,19 @@ use Rattle.commit_journal.proofs.RoomLemmas.{FitsIn-trans}
 use Rattle.interference.specs.Footprint.{footprint}
 use Rattle.interference.proofs.ListLemmas.{Each-among}
 use Rattle.interference.proofs.MatchedLemmas.{matches-listed}
-use Rattle.refraction_index.specs.Firings.{Index, Tells}
+use Rattle.refraction_index.specs.Firings.{Index}
 use Rattle.standing_claims.specs.declared.claim.Claim.{Claim}
 use Rattle.standing_claims.specs.Standing.{Standing}
 use Rattle.firing_core.specs.declared.claims.Event.TheVariants as event
 use Rattle.firing_core.specs.declared.machine.Core.TheInside.{Inside}
-use Rattle.firing_core.specs.CoreFields.{HoldsKept, IsIndexOf, core_in, fired_in, state_in}
+use Rattle.firing_core.specs.CoreFields.{HoldsKept, IsIndexOf, core_in, fired_in}
 use Rattle.firing_core.specs.CoreState.{CoreState}
-use Rattle.firing_core.specs.Events.{apply, is_fitting, with_claim}
+use Rattle.firing_core.specs.Events.{apply, with_claim}
 use Rattle.firing_core.specs.Grants.{Granted, MayFireAway}
 use Rattle.firing_core.specs.Kept.{IsKept}
 use Rattle.firing_core.specs.Lawful.{IsHeld, IsLawful}
 use Rattle.firing_core.specs.Refusals.{claim_refusal}
-use Rattle.firing_core.specs.Store.{Stored, at_places, came, memory_in}
+use Rattle.firing_core.specs.Store.{Stored, at_places, came}
 use Rattle.firing_core.proofs.CommitLemmas.{HasMatch-matches}
 use Rattle.firing_core.proofs.EventLemmas.{IsLawful-apply, IsState-lawful}
 use Rattle.firing_core.proofs.FittingLemmas.{fitting_is_decided}

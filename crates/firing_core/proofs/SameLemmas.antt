@@ -1,6 +1,6 @@
 -- Lists that are compared item by item.
 use lib.Pointwise.{pointwise}
-use Rattle.std.proofs.Common.{◌≡◌, ℕ, ◌+◌, List, [], ◌∷◌, Bool, true, false, ◌&&◌, Some, drop, length, slice_get, suc, refl, ◌∙◌, ap, arith}
+use Rattle.std.proofs.Common.{◌≡◌, ℕ, ◌+◌, List, [], ◌∷◌, Bool, true, false, ◌&&◌, Some, drop, length, slice_get, suc, refl, ap}
 use Rattle.rule_base.proofs.StepByStepLemmas.{drop_next}
 
 -- one item further

@@ -1,5 +1,5 @@
 -- What a call that claims tells where it makes no claim.
-use Rattle.std.proofs.Common.{◌≡◌, ℕ, suc, ◌+◌, ◌∙◌, List, [], ◌∷◌, Bool, true, false, ◌&&◌, Option, None, Some, Result, Err, Ok, IfErr, inl, inr, is_none, length, map, option_map, slice_get, refl, sym, ap, subst, arith}
+use Rattle.std.proofs.Common.{◌≡◌, ℕ, suc, ◌∙◌, List, [], ◌∷◌, Bool, true, false, Option, None, Some, Result, Err, Ok, IfErr, inl, inr, length, option_map, slice_get, refl, ap, arith}
 use Rattle.std.specs.List.{AllByRecursion}
 use Rattle.std.specs.Result.{IsErrAnd}
 use Rattle.rule_base.specs.declared.instantiation.Candidate.{Candidate}

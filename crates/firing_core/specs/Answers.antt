@@ -1,6 +1,6 @@
 -- What the calls that make a claim or end it answer, and what becomes of the core.
 use lib.Pointwise.{pointwise}
-use Rattle.std.specs.Prelude.{◌≡◌, ℕ, List, [], ◌∷◌, Bool, false, ◌&&◌, ◌⊎◌, not, Option, None, Some, is_some, option_and_then, option_map, ◌==◌}
+use Rattle.std.specs.Prelude.{◌≡◌, ℕ, List, [], ◌∷◌, Bool, false, ◌&&◌, ◌⊎◌, not, Option, None, Some, option_and_then, option_map, ◌==◌}
 use Rattle.std.specs.Option.{option_map_or}
 use Rattle.rule_base.specs.declared.element.Element.{Element}
 use Rattle.rule_base.specs.declared.instantiation.Candidate.{Candidate}

@@ -563,11 +563,12 @@ impl Core {
         ensures steps { steps.new ≤ steps.old + 4 * length effect.now.changes + 4 }
     {
         let place = self.count();
+        let claim = grant.number();
         let choice = grant.choice();
         self.halted = effect.halts();
         self.store
             .commit(choice.rule, choice.tags.as_slice(), effect, steps);
-        self.claims.remove(grant.number());
+        self.claims.remove(claim);
         place
     }
 

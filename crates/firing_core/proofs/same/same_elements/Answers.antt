@@ -1,6 +1,6 @@
 -- Items that differ end the comparison, and items that are the same are passed over.
 use lib.Pointwise.{pointwise}
-use Rattle.std.proofs.Common.{◌≡◌, ◌+◌, ◌&&◌, Bool, true, false, drop, ap, ◌∙◌, sym}
+use Rattle.std.proofs.Common.{◌+◌, ◌&&◌, drop, ap, ◌∙◌, sym}
 use Rattle.rule_base.specs.Views.{element_in}
 use Rattle.firing_core.specs.Refusals.{same_element}
 use Rattle.firing_core.proofs.SameLemmas.{pointwise-next}

@@ -1,5 +1,4 @@
 -- Want of memory, or the busy lock, is told.
-use Rattle.std.proofs.Common.{sym, ◌∙◌}
 use Rattle.firing_core.proofs.WhyLemmas.{told_memory}
 use Rattle.firing_core.proofs.machine.Core.claim.Goals as goal
 

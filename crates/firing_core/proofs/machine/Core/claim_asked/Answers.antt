@@ -1,5 +1,5 @@
 -- Either nothing refuses the candidate, and the claim is made, or the first reason is told.
-use Rattle.std.proofs.Common.{◌≡◌, None, Some, ap, rules, sym, subst, ◌∙◌}
+use Rattle.std.proofs.Common.{◌≡◌, None, Some, ap, sym, subst, ◌∙◌}
 use Rattle.firing_core.specs.CoreState.{CoreState}
 use Rattle.firing_core.specs.Events.{with_claim}
 use Rattle.firing_core.specs.Refusals.{claim_refusal}

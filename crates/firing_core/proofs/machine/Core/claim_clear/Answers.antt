@@ -1,8 +1,5 @@
 -- No lock of a candidate that is clear is busy.
-use Rattle.std.proofs.Common.{◌≡◌, None, sym, subst, ap}
-use Rattle.firing_core.specs.CoreFields.{core_in}
-use Rattle.firing_core.specs.CoreState.{CoreState}
-use Rattle.firing_core.specs.Clear.{IsClear}
+use Rattle.std.proofs.Common.{subst}
 use Rattle.firing_core.specs.Lawful.{IsLawful}
 use Rattle.firing_core.proofs.WhyLemmas.{clear_not_busy, memory_not_busy, told_memory}
 use Rattle.firing_core.proofs.machine.Core.claim_clear.Goals as goal

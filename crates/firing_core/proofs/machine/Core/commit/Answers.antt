@@ -1,6 +1,6 @@
 -- What a firing for the claim comes to is the effect of its choice.
-use Rattle.std.proofs.Common.{◌≡◌, Err, None, Ok, Some, rules, ap, sym, subst, ◌∙◌}
-use Rattle.rule_base.specs.Effect.{Failure, effect}
+use Rattle.std.proofs.Common.{◌≡◌, None, Ok, Some, rules, ap, sym, subst, ◌∙◌}
+use Rattle.rule_base.specs.Effect.{effect}
 use Rattle.rule_base.specs.Step.{effect_of}
 use Rattle.rhs_actions.specs.Outcomes.{rule_at}
 use Rattle.firing_core.specs.Answers.{commit_refusal}

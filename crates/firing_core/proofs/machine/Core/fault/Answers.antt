@@ -1,5 +1,5 @@
 -- What a firing for the claim comes to is the failure of its choice.
-use Rattle.std.proofs.Common.{◌≡◌, Err, None, Ok, Some, rules, ap, sym, subst, ◌∙◌}
+use Rattle.std.proofs.Common.{◌≡◌, Err, None, Some, rules, ap, sym, subst, ◌∙◌}
 use Rattle.rule_base.specs.Effect.{Failure, effect}
 use Rattle.rule_base.specs.Step.{effect_of}
 use Rattle.rhs_actions.specs.Outcomes.{rule_at}

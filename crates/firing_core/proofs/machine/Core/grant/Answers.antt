@@ -1,12 +1,11 @@
 -- There is room for the claim, its grant may fire, and the fields are those after it.
-use Rattle.std.proofs.Common.{◌≡◌, ◌+◌, ◌-◌, ◌^◌, ◌||◌, ◌==◌, ◌++◌, ◌∷◌, [], Bool, None, Ok, Some, false, length, refl, rules, sym, subst, ap, ◌∙◌}
+use Rattle.std.proofs.Common.{◌≡◌, ◌+◌, ◌-◌, ◌^◌, ◌||◌, ◌==◌, None, false, length, refl, rules, sym, subst, ap, ◌∙◌}
 use Rattle.rule_base.specs.Fits.{Fits}
 use Rattle.interference.specs.Footprint.{footprint}
 use Rattle.interference.proofs.LockLemmas.{footprint_in_range}
 use Rattle.standing_claims.specs.Amounts.{IsFootprint}
 use Rattle.firing_core.specs.CoreFields.{core_in}
 use Rattle.firing_core.specs.CoreState.{CoreState}
-use Rattle.firing_core.specs.declared.machine.Core.TheInside.{Inside}
 use Rattle.firing_core.specs.Grants.{Granted, MayFireAway}
 use Rattle.firing_core.specs.Refusals.{claim_refusal}
 use Rattle.firing_core.proofs.ClaimLemmas.{IsClaimable-none, Rises-footprint}

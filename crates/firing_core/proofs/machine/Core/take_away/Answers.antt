@@ -1,5 +1,4 @@
 -- The claims are those that were left.
-use Rattle.std.proofs.Common.{sym, subst}
 use Rattle.firing_core.proofs.KeptLemmas.{HoldsKept-without}
 use Rattle.firing_core.proofs.machine.Core.take_away.Goals as goal
 

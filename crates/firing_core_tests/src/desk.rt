@@ -4,7 +4,7 @@
 ghost use Rattle.std.specs.Prelude.{◌≡◌, ◌^◌, ◌<◌, IfErr, IfOk, length};
 ghost use Rattle.rule_base.specs.Ending.{IsBudget};
 ghost use Rattle.rule_base.specs.Sound.{IsSound};
-ghost use Rattle.engine_tests.specs.Desk.{AreOf};
+ghost use Rattle.firing_core_tests.specs.Desk.{AreOf};
 
 use crate::runs::choices;
 use crate::setting::{opening_of, program_of};
@@ -57,7 +57,7 @@ impl Model for Desk {
     ghost use Rattle.rule_base.specs.declared.program.Program.{Program};
     ghost use Rattle.rule_base.specs.contracts.expression.Operand as operand;
     ghost use Rattle.std.specs.Coded.{codes};
-    ghost use Rattle.engine_tests.specs.Desk.{AreOf};
+    ghost use Rattle.firing_core_tests.specs.Desk.{AreOf};
 
     ghost Value = { Program };
 

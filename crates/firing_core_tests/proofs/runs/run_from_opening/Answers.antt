@@ -1,6 +1,6 @@
 -- A run may begin from an opening.
 use Rattle.rule_base.proofs.BaseLemmas.{IsLawfulBase-opening}
-use Rattle.engine_tests.proofs.runs.run_from_opening.Goals as goal
+use Rattle.firing_core_tests.proofs.runs.run_from_opening.Goals as goal
 
 pub run_alone-requires-clause-lawful : goal.run_alone-requires-clause-lawful
 run_alone-requires-clause-lawful c =

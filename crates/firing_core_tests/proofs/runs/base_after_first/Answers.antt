@@ -11,7 +11,7 @@ use Rattle.rule_base.specs.Opening.{IsOpening}
 use Rattle.rule_base.specs.Sound.{sizes_of}
 use Rattle.rule_base.proofs.BaseLemmas.{IsLawfulBase-opening}
 use Rattle.rule_base.proofs.ChoiceLemmas.{IsDistinct-push}
-use Rattle.engine_tests.proofs.runs.base_after_first.Goals as goal
+use Rattle.firing_core_tests.proofs.runs.base_after_first.Goals as goal
 
 abbrev first : Choice
 first = record { rule = 0; tags = 1 ∷ [] }

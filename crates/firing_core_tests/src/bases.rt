@@ -7,7 +7,7 @@ ghost use Rattle.rule_base.specs.Ending.{IsBudget};
 ghost use Rattle.rule_base.specs.Opening.{IsOpening};
 ghost use Rattle.rule_base.specs.Sound.{IsSound, sizes_of};
 ghost use Rattle.rule_base.specs.Step.{is_listed};
-ghost use Rattle.engine_tests.specs.Bases.{HasOnePositive, first};
+ghost use Rattle.firing_core_tests.specs.Bases.{HasOnePositive, first};
 
 use crate::desk::Act::{Claim, Fire};
 use crate::desk::{Act, Desk, core_of, desk_of};
