@@ -8,6 +8,7 @@ pub mod Events
 pub mod Grants
 pub mod Clear
 pub mod Answers
+pub mod Halls
 pub mod Lawful
 pub mod FinishedRun
 -- laws of events
