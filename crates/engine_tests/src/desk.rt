@@ -306,7 +306,10 @@ fn claimed_anew(
 }
 
 /// Takes a grant in hand, and answers its number.
-fn taken(alloc: Global, hand: &mut Vec<Grant>, grant: Grant) -> Result<String, Fail> {
+fn taken(alloc: Global, hand: &mut Vec<Grant>, grant: Grant) -> Result<String, Fail>
+    requires { AreOf grant.program hand.old.items }
+    ensures { AreOf grant.program hand.new.items }
+{
     let number = grant.number();
     hand.push(grant)?;
     Ok(format!(in alloc; "{number}")?)
