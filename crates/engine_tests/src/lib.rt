@@ -1,8 +1,8 @@
-//! Tests of the crates that the engine is made of, by their public calls: copies of the data of rule
-//! programs, rows of bindings, effects of firings and their entries, runs of cores to their endings,
-//! claims of a core from their grant to their end, footprints, claims that stand, places of working memory,
-//! and when choices last fired. What conditions accept and what runs come to, the program shows where it
-//! can: that is in `cases/`.
+//! Tests of the crates that the engine is made of, by their public calls: copies of the data of
+//! rule programs, rows of bindings, effects of firings and their entries, runs of cores to their
+//! endings, claims of a core from their grant to their end, footprints, claims that stand, places
+//! of working memory, and when choices last fired. What conditions accept and what runs come to,
+//! the program shows where it can: that is in `cases/`.
 #![tactic(auto)]
 
 #[cfg(test)]
