@@ -1,5 +1,5 @@
 -- The choice with which the fixtures' bases begin.
-use Rattle.std.specs.Prelude.{◌≡◌, List, [], ◌∷◌, Some, option_map, slice_get}
+use Rattle.std.specs.Prelude.{◌≡◌, [], ◌∷◌, Some, option_map, slice_get}
 use Rattle.rule_base.specs.declared.instantiation.Choice.{Choice}
 use Rattle.rule_base.specs.declared.program.Rule.{Rule}
 use Rattle.rule_base.specs.declared.program.Program.{Program}

@@ -1,5 +1,5 @@
-//! A desk: a core at work, another core of the same program, and the grants that the two gave, which are
-//! in hand until they are used. What is done there is told in short texts.
+//! A desk: a core at work, another core of the same program, and the grants that the two gave,
+//! which are in hand until they are used. What is done there is told in short texts.
 
 ghost use Rattle.std.specs.Prelude.{◌≡◌, ◌^◌, ◌<◌, IfErr, IfOk, length};
 ghost use Rattle.rule_base.specs.Ending.{IsBudget};
@@ -20,9 +20,9 @@ use std::sync::Arc;
 use std::sync::ledger::{Blank, Ledger};
 use std::test::Fail;
 
-/// What is done at a desk. A candidate is named by the number of its rule, and by the tag and the one
-/// value of its one element; a grant by its place among those in hand, which are in the order in which
-/// they came.
+/// What is done at a desk. A candidate is named by the number of its rule, and by the tag and the
+/// one value of its one element; a grant by its place among those in hand, which are in the order
+/// in which they came.
 #[derive(Clone, Copy, Debug)]
 pub enum Act {
     Claim(u32, u64, i64),
@@ -211,8 +211,8 @@ fn candidate_of(
     })
 }
 
-/// How a core has ended, its first choices, how many there are, how many elements are in its memory, and
-/// the next tag.
+/// How a core has ended, its first choices, how many there are, how many elements are in its
+/// memory, and the next tag.
 fn stand_of(alloc: Global, core: &Core) -> Result<String, OutOfMemory> {
     let first = choices(alloc, &core.look(alloc, 0, 9)?)?;
     let ended = core.ended();
@@ -306,7 +306,10 @@ fn claimed_anew(
 }
 
 /// Takes a grant in hand, and answers its number.
-fn taken(alloc: Global, hand: &mut Vec<Grant>, grant: Grant) -> Result<String, Fail> {
+fn taken(alloc: Global, hand: &mut Vec<Grant>, grant: Grant) -> Result<String, Fail>
+    requires { AreOf grant.program hand.old.items }
+    ensures { AreOf grant.program hand.new.items }
+{
     let number = grant.number();
     hand.push(grant)?;
     Ok(format!(in alloc; "{number}")?)
@@ -330,7 +333,8 @@ fn refused(
     }
 }
 
-/// Ends the claim of the grant at one place by what the right-hand side of the grant at another does.
+/// Ends the claim of the grant at one place by what the right-hand side of the grant at another
+/// does.
 fn fired(
     alloc: Global,
     core: &mut Core,

@@ -136,7 +136,8 @@ fn after_the_end_a_claim_is_only_dropped(rt: HostRuntime) -> Result<(), Fail> {
         (p takes (a) --> (remove 1))\
         (p halts (a) --> (remove 1) (halt))\
         (p fails (a) --> (remove 1) (modify 1 ^x 5))";
-    // the rule that ends the core, the one of the claim that is left, the budget, and what ends that claim
+    // the rule that ends the core, the one of the claim that is left, the budget, and what ends
+    // that claim
     let rows = [
         (1, 0, 9, Fire(0), "Ok(0)", "Err(Ended(Halted))"),
         (1, 2, 9, Fire(0), "Ok(0)", "Err(Ended(Halted))"),

@@ -37,8 +37,8 @@ fn a_claim_finds_what_others_took(rt: HostRuntime) -> Result<(), Fail> {
             &[Claim(0, 1, 7), Claim(0, 2, 23)],
             "1; lock 1047 has 1099511627776; ",
         ),
-        // an element that has gone, and what has come in its place, whose claim isn't for a firing on
-        // the old one
+        // an element that has gone, and what has come in its place, whose claim isn't for a
+        // firing on the old one
         (
             down,
             &[
@@ -172,8 +172,8 @@ fn with_many_rules(alloc: Global, count: usize) -> Result<String, OutOfMemory> {
     Ok(text)
 }
 
-/// Claims choices of the 64 rules in turn for the elements with these tags, where each claim's number
-/// is to be its tag.
+/// Claims choices of the 64 rules in turn for the elements with these tags, where each claim's
+/// number is to be its tag.
 fn claim_all(alloc: Global, desk: &mut Desk, first: u64, last: u64) -> Result<(), Fail> {
     for tag in first..=last {
         let told = desk.act(alloc, Claim((tag % 64) as u32, tag, 1))?;
@@ -215,8 +215,8 @@ fn numbers_and_tags_follow_their_calls(rt: HostRuntime) -> Result<(), Fail> {
     let raises = "(literalize a x)(make a ^x 1)(make a ^x 2)\
         (p r (a ^x { <v> < 10 }) --> (modify 1 ^x (compute <v> + 10)))";
     let rows: [(&str, &[Act], &str); 3] = [
-        // the old grants are of no claim that stands: the first is of another choice, and the second
-        // has another number
+        // the old grants are of no claim that stands: the first is of another choice, and the
+        // second has another number
         (
             plain,
             &[
