@@ -1,5 +1,5 @@
 -- What a call that claims tells where it makes no claim.
-use Rattle.std.proofs.Common.{◌≡◌, ℕ, suc, ◌∙◌, List, [], ◌∷◌, Bool, true, false, Option, None, Some, Result, Err, Ok, IfErr, inl, inr, length, option_map, slice_get, refl, ap, arith}
+use Rattle.std.proofs.Common.{◌≡◌, ◌↔◌, ℕ, suc, ◌∙◌, List, [], ◌∷◌, Bool, true, false, Option, None, Some, Result, Err, Ok, IfErr, inl, inr, length, option_map, slice_get, refl, ap, arith}
 use Rattle.std.specs.List.{AllByRecursion}
 use Rattle.std.specs.Result.{IsErrAnd}
 use Rattle.rule_base.specs.declared.instantiation.Candidate.{Candidate}
@@ -7,7 +7,7 @@ use Rattle.rule_base.specs.declared.lock.Busy.{Busy}
 use Rattle.rule_base.specs.declared.lock.Mode.{Mode}
 use Rattle.rule_base.specs.Chains.{only_if}
 use Rattle.rule_base.specs.State.{has_fired}
-use Rattle.rule_base.proofs.EachLemmas.{Each-map}
+use Rattle.rule_base.proofs.EachLemmas.{Each-map, Each-slice_get}
 use Rattle.interference.specs.Footprint.{Clash, footprint}
 use Rattle.interference.specs.Pins.{first_answer}
 use Rattle.interference.proofs.WordLemmas.{words_tell_clashes}
@@ -19,7 +19,7 @@ use Rattle.firing_core.specs.Clear.{IsClear, IsNotBusy}
 use Rattle.firing_core.specs.CoreState.{CoreState, ended}
 use Rattle.firing_core.specs.Refusals.{busy_lock, claim_of_choice, claim_refusal, claimed_footprints, failing_condition, gone_tag, is_full}
 use Rattle.firing_core.specs.Lawful.{IsLawful}
-use Rattle.firing_core.proofs.ClaimLemmas.{Rises-footprint, length-map_claims}
+use Rattle.firing_core.proofs.ClaimLemmas.{Rises-footprint, clear_of_claims, length-map_claims}
 
 -- want of memory
 pub told_memory : {X : Type 0} (k : CoreState) (candidate : Candidate) (r : Result X ClaimRefusal) → IsErrAnd r (λ told. told ≡ refusal.OutOfMemory) → IfErr r (TellsWhy k candidate)
@@ -89,3 +89,10 @@ clear_not_busy k candidate lawful clear =
     let each = each_from (λ (claim : Claim). Clash (by claim) asked → ⊥) k.claims clear in
     (words_tell_clashes (claimed_footprints k) asked (omega (arith, lawful.claims.few_claims, length-map_claims by k.claims)) (Rises-footprint k.program candidate)).1
     (Each-map (λ (other : List (ℕ × Mode)). Clash other asked → ⊥) by k.claims each)
+
+-- and the other way round
+pub locks_tell_clashes : (k : CoreState) (candidate : Candidate) → IsLawful k → (busy_lock k candidate ≡ None) ↔ IsClear k candidate
+locks_tell_clashes k candidate lawful =
+    let asked = footprint k.program candidate in
+    let apart : Claim → Type 0 = λ (claim : Claim). Clash (footprint k.program claim.candidate) asked → ⊥ in
+    (λ none. λ at claim is. Each-slice_get apart k.claims at claim (clear_of_claims k candidate lawful.claims.few_claims none) is, clear_not_busy k candidate lawful)

@@ -8,7 +8,9 @@ use Rattle.rule_base.specs.Base.{IsLawfulBase}
 use Rattle.rule_base.specs.State.{base_of}
 use Rattle.firing_core.specs.declared.claims.Event.{Event}
 use Rattle.firing_core.specs.CoreState.{CoreState, ended}
+use Rattle.firing_core.specs.Clear.{IsClear}
 use Rattle.firing_core.specs.Lawful.{IsLawful}
+use Rattle.firing_core.specs.Refusals.{busy_lock}
 use Rattle.firing_core.specs.FinishedRun.{GoesOn}
 use Rattle.firing_core.specs.FiredChoices.{AreFired}
 use Rattle.firing_core.specs.Events.{after_firing, fold, is_fitting, without_claims}
@@ -38,3 +40,7 @@ FittingIsDecided = (program : Program) (candidate : Candidate) → (is_fitting p
 abbrev pub FiredMakeBases : Type 0
 FiredMakeBases = (k : CoreState) (choices : List Choice) → IsLawful k → k.state.next < 2 ^ 63 → AreFired k.state choices
     → IsLawfulBase k.program (record (base_of k.state) { fired = choices })
+
+-- no lock is busy for a candidate exactly where no claim that stands is in its way
+abbrev pub LocksTellClashes : Type 0
+LocksTellClashes = (k : CoreState) (candidate : Candidate) → IsLawful k → (busy_lock k candidate ≡ None) ↔ IsClear k candidate

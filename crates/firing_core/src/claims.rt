@@ -35,7 +35,8 @@ pub enum ClaimRefusal {
     Fired,
     /// The claim with this number is of the same choice.
     Claimed { number: u64 },
-    /// 2^64 - 1 claims were given a number, or 4,095 stand: so many were, and so many do.
+    /// 2^64 - 1 claims were given a number since all were last dropped, or 4,095 stand: so many were, and
+    /// so many do.
     Full { given: u64, standing: u64 },
     OutOfMemory,
 }

@@ -9,7 +9,7 @@ ghost use Rattle.firing_core.specs.declared.claims.How.{How};
 ghost use Rattle.firing_core.specs.declared.claims.How.TheVariants as how;
 ghost use Rattle.firing_core.specs.Events.{without_claims};
 ghost use Rattle.firing_core.specs.Lawful.{IsLawful};
-ghost use Rattle.firing_core.specs.FinishedRun.{GoesOn, IsFinishedRun};
+ghost use Rattle.firing_core.specs.FinishedRun.{GoesOn, IsFinishedRun, TellsKeptFault};
 ghost use Rattle.rule_base.specs.Step.{effect_of, may_fire};
 ghost use Rattle.firing_core.specs.Firing.{Fires, IsLeft};
 ghost use Rattle.firing_core.specs.Turn.{IsTurn};
@@ -25,7 +25,7 @@ use std::marker::Brand;
 use std::sync::Arc;
 use std::sync::ledger::{Blank, Ledger};
 
-/// A core whose run has ended, and how.
+/// A core on which no claim stands, and how its run may end there.
 #[derive(Drop)]
 pub struct Finished {
     pub core: Core,
@@ -40,10 +40,14 @@ enum Turn {
 }
 
 /// Drops all claims and fires until the run has ended. Which of several choices fires first is left open.
-/// After want of memory the core is gone.
+/// A core that keeps a fault ends with it; a fault that comes up here is told, and not kept. After want of
+/// memory the core is gone.
 pub fn finish(alloc: Global, core: Core) -> Result<Finished, OutOfMemory>
     ensures goes_on { IfOk result (λ finished. GoesOn core finished.core) }
-    ensures alone { IfOk result (λ finished. finished.core.claims ≡ []) }
+    ensures alone { IfOk result
+        (λ finished. (finished.core.claims ≡ []) × (finished.core.given ≡ 0)) }
+    ensures fault { IfOk result (λ finished. finished.core.fault ≡ core.fault) }
+    ensures kept_fault { IfOk result (λ finished. TellsKeptFault core finished.ending) }
     ensures ending { IfOk result
         (λ finished. IsEnding core.program core.budget finished.core.state finished.ending) }
     ensures lawful { IfOk result (λ finished. IsLawful finished.core) }
@@ -107,6 +111,8 @@ pub fn run_alone(
         (λ finished. IsFinishedRun program.value base budget
         finished.core.state finished.ending) }
     ensures run { IfOk result (λ finished. IsRunOf program.value base budget finished.core) }
+    ensures alone { IfOk result
+        (λ finished. (finished.core.claims ≡ []) × (finished.core.given ≡ 0)) }
     ensures core { IfOk result (λ finished. IsLawful finished.core) }
 {
     let core = Core::new(alloc, program, base, budget)?;
@@ -145,7 +151,8 @@ fn at_budget(alloc: Global, core: &mut Core, bench: &mut Workbench) -> Result<Tu
 /// The ending of a core that has kept a fault.
 fn seen_fault(alloc: Global, core: &Core) -> Result<Ending, OutOfMemory>
     requires { ended core.now ≡ Some how.Fault }
-    ensures { IfOk result (IsEnding core.now.program core.now.budget core.now.state) }
+    ensures ending { IfOk result (IsEnding core.now.program core.now.budget core.now.state) }
+    ensures kept { IfOk result (TellsKeptFault core.now) }
 {
     match core.fault_seen() {
         Some(seen) => Ok(Ending::Fault {

@@ -1,7 +1,7 @@
 //! The elements of a store by the values that negated condition elements ask for. Firings don't fill it:
 //! whoever asks has it take in the store first.
 
-ghost use Rattle.std.specs.Prelude.{◌≡◌, ◌∷◌, ◌≤◌, [], IfOk, OnOk, length};
+ghost use Rattle.std.specs.Prelude.{◌≡◌, ◌∷◌, ◌≤◌, [], IfOk, OnOk, filter, length};
 ghost use Rattle.rule_base.specs.Views.{element_in};
 ghost use Rattle.working_memory.specs.declared.groups.Key.{Key};
 ghost use Rattle.working_memory.specs.Groups.{group};
@@ -60,6 +60,7 @@ impl Grouped {
     /// and another call goes on from there.
     pub fn take_in(&mut self, alloc: Global, store: &Store) -> Result<(), OutOfMemory>
         requires { IsGroupingOf self.old store.now }
+        ensures attributes { self.new.attributes ≡ self.old.attributes }
         ensures ok { OnOk result (IsWholeGroupingOf self.new store.now) }
         ensures grouping { IsGroupingOf self.new store.now }
     {
@@ -95,6 +96,8 @@ impl Grouped {
         requires { IsWholeGroupingOf self.old store.now }
         ensures grouping { IsWholeGroupingOf self.new store.now }
         ensures attributes { self.new.attributes ≡ self.old.attributes }
+        ensures cleaned { group self.new.groups key
+            ≡ filter (has_place store.now.places) (group self.old.groups key) }
     {
         self.groups.clean(key, store.memory());
     }

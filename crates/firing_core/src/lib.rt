@@ -1,5 +1,6 @@
-//! The core of the engine: the recognise-act machine with its journal. It finds an instantiation, has
-//! its right-hand side evaluated and commits it. It matches by plain filters and knows no thread.
+//! The core of the engine: the recognise-act machine with its journal and the claims that stand on it. By
+//! itself it finds an instantiation by plain filters, has its right-hand side evaluated and commits it; for
+//! others it says what may be claimed, and commits what they have evaluated. It knows no thread.
 #![tactic(auto)]
 
 mod acceptance;

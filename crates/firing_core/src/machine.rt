@@ -1,6 +1,8 @@
-//! The core: a program, the base that a run begins from, and how far the run has come.
+//! The core: a program, the base that a run begins from, how far the run has come, and the claims that
+//! stand.
 
-ghost use Rattle.std.specs.Prelude.{◌≡◌, ◌+◌, ◌*◌, ◌<◌, ◌≤◌, ◌↔◌, [], true, None, Ok, Err, Some, IfErr, IfOk, IsTrue, OnOk, OnErr, is_ok, is_some, length};
+ghost use Rattle.std.specs.Prelude.{◌≡◌, ◌+◌, ◌*◌, ◌<◌, ◌≤◌, ◌↔◌, [], true, None, Ok, Err, Some, IfErr, IfOk, IsTrue, OnOk, OnErr, drop, is_ok, is_some, length};
+ghost use Rattle.commit_journal.specs.Entries.{born_in};
 ghost use Rattle.std.specs.Option.{option_copied};
 ghost use Rattle.std.specs.Result.{result_err};
 ghost use Rattle.rule_base.specs.Sound.{IsSound};
@@ -49,8 +51,9 @@ use std::marker::Model;
 use std::sync::Arc;
 use std::sync::ledger::Ledger;
 
-/// A run of the recognise-act machine that can go on. It keeps that its state is where its journal
-/// leads from its base.
+/// A run of the recognise-act machine that can go on, with the claims that stand on it and the fault that
+/// ended it, if one did. It keeps that its state is where its journal leads from its base, and that each
+/// claim could fire and is in no other's way.
 #[derive(Drop)]
 pub struct Core {
     program: Arc<Program>,
@@ -88,7 +91,8 @@ impl Model for Core {
 
 impl Core {
     /// A core at the beginning of a run from a base. It takes time in proportion to the number of its
-    /// elements and fired choices, and copies no element.
+    /// elements and fired choices, and copies no element; and it goes through the program, once for each
+    /// attribute of a class.
     pub fn new(
         alloc: Global,
         program: Arc<Program>,
@@ -188,7 +192,11 @@ impl Core {
     /// So many entries of the journal from a place on, or all from there where there are fewer, as a
     /// journal of its own. What stands before them costs nothing.
     pub fn look(&self, alloc: Global, position: u64, most: u32) -> Result<Journal, OutOfMemory>
-        ensures { IfOk result (λ some. some.entries ≡ looked self.now position most) }
+        ensures entries { IfOk result (λ some. some.entries ≡ looked self.now position most) }
+
+        // Elements that are born behind it have the tags that go on from there.
+        ensures next { IfOk result (λ some. some.next
+            + length (born_in (drop most (drop position self.now.state.entries))) ≡ self.now.state.next) }
     {
         self.store.journal().stretch(alloc, position, most)
     }
@@ -220,6 +228,7 @@ impl Core {
         requires { Fits self.now.program candidate.now }
         ensures busy { IfOk result (λ busy. busy ≡ busy_lock self.now candidate.now) }
         ensures room { OnOk result (room.new.items ≡ footprint self.now.program candidate.now) }
+        ensures lawful { IsLawful self.now }
     {
         footprint(&self.program, &self.splits, candidate, room)?;
         Ok(self.claims.busy(room.as_slice()))
@@ -312,6 +321,7 @@ impl Core {
         ensures fired { IfOk result (λ choices. (c : Choice) →
             list_any (same_choice c) choices ≡ has_fired self.old.state c) }
         ensures order { IfOk result AreInOrder }
+        ensures lawful { IsLawful self.old }
         ensures same { self.new ≡ self.old }
     {
         self.index.take_in(alloc, self.store.journal())?;
@@ -355,6 +365,7 @@ impl Core {
           candidate = candidate.now;
         }) }
         ensures refused { IfErr result (TellsWhy self.old candidate.now) }
+        ensures lawful { IsLawful self.old }
         ensures same { OnErr result (self.new ≡ self.old) }
     {
         let mut room = Vec::new(alloc);
@@ -382,6 +393,7 @@ impl Core {
         }) }
         ensures refused { IfErr result (TellsWhy self.old candidate.now) }
         ensures not_busy { IfErr result IsNotBusy }
+        ensures lawful { IsLawful self.old }
         ensures same { OnErr result (self.new ≡ self.old) }
     {
         let mut room = Vec::new(alloc);
@@ -446,7 +458,9 @@ impl Core {
     }
 
     /// Commits the firing of a claim, which then ends, and answers the place of its entry in the journal,
-    /// which counts from 0. Nothing is matched again, and no memory is taken.
+    /// which counts from 0. Nothing is matched again, and no memory is taken. The claim is found by looking
+    /// at one after another, and its locks are given back, which isn't counted. After `Foreign` the grant is
+    /// spent: a claim that it was of stands until all are dropped.
     pub fn commit<L: Ledger>(
         &mut self,
         grant: Grant,
@@ -459,6 +473,7 @@ impl Core {
         ensures place { IfOk result (λ place. place ≡ count self.old.state) }
         ensures after { after_ending self.old grant.number (event.Committed grant.number)
             (result_err result) ≡ Some self.new }
+        ensures lawful { IsLawful self.old }
         ensures steps { steps.new ≤ steps.old + 4 * length delta.effect.changes + 4 }
     {
         match self.turn_away(&grant, delta.rule_number(), delta.elements()) {
@@ -467,13 +482,15 @@ impl Core {
         }
     }
 
-    /// Ends the core by the failure of a claim's firing. The claim ends, and no memory is taken.
+    /// Ends the core by the failure of a claim's firing. The claim ends, and no memory is taken. It costs what
+    /// a commit that changes nothing costs.
     pub fn fault(&mut self, grant: Grant, failed: Failed) -> Result<(), CommitRefusal>
         requires program { failed.program ≡ self.old.program }
         ensures refusal { result_err result
             ≡ commit_refusal self.old grant failed.rule failed.elements }
         ensures after { after_ending self.old grant.number (event.Faulted grant.number)
             (result_err result) ≡ Some self.new }
+        ensures lawful { IsLawful self.old }
     {
         match self.turn_away(&grant, failed.rule_number(), failed.elements()) {
             Some(refusal) => Err(refusal),
@@ -487,6 +504,7 @@ impl Core {
     /// Takes the claim of a grant away, also where the core has ended. It takes no memory.
     pub fn drop_claim(&mut self, grant: Grant) -> Result<(), Foreign>
         ensures stands { is_ok result ≡ is_some (claim_of self.old grant) }
+        ensures lawful { IsLawful self.old }
         ensures dropped { OnOk result
             (apply self.old (event.Dropped grant.number) ≡ Some self.new) }
         ensures same { OnErr result (self.new ≡ self.old) }
@@ -507,7 +525,8 @@ impl Core {
 
     /// The claim of a grant, if it stands.
     fn claim_of(&self, grant: &Grant) -> Option<&Claim>
-        ensures { option_copied result ≡ claim_of self.now grant.now }
+        ensures claim { option_copied result ≡ claim_of self.now grant.now }
+        ensures lawful { IsLawful self.now }
     {
         match self.claims.with_number(grant.number()) {
             Some(claim) if claim.candidate.choice.same(grant.choice()) => Some(claim),
@@ -604,7 +623,8 @@ impl Core {
     }
 
     /// The first choice of the conflict set that has not fired, or none where all have. It matches
-    /// every rule anew against the whole memory, of which it lays a copy on the bench.
+    /// one rule after another anew against the whole memory, of which it lays a copy on the bench, up to the
+    /// first that has one; and it has the index take in the journal.
     pub(crate) fn find_unfired(
         &mut self,
         alloc: Global,
@@ -645,8 +665,8 @@ impl Core {
 
     /// Fires a choice with its effect, which is one step of the machine, and answers the place of its
     /// entry in the journal, which counts from 0. The caller knows that no claim stands and that the choice
-    /// may fire, so nothing is matched again and no lock is taken. It takes memory only where the journal has to grow, and after want of it all
-    /// is as before.
+    /// may fire, so nothing is matched again and no lock is taken. It takes memory only where the journal or
+    /// the working memory has to grow, and after want of it all is as before.
     pub(crate) fn fire<L: Ledger>(
         &mut self,
         choice: &Choice,

@@ -10,7 +10,8 @@ use Rattle.firing_core.proofs.finishing.finish.Given as goal
 abbrev pub invariant-loop-bench : goal.invariant-loop-bench
 invariant-loop-bench l = record {
   goes_on : GoesOn l.fn.core l.core;
-  alone : l.core.claims ≡ [];
+  alone : (l.core.claims ≡ []) × (l.core.given ≡ 0);
+  fault : l.core.fault ≡ l.fn.core.fault;
   ended_before : (how : How) → ended l.fn.core ≡ Some how → l.core ≡ without_claims l.fn.core;
 }
 
