@@ -354,14 +354,13 @@ fn fired(
         return Err(Fail::new("no such grant in hand"));
     }
     let grant = hand.remove(place);
-    core.count();
     match outcome {
         Ok(delta) => {
             let answer = commit::<Brand>(core, grant, delta, Blank::new(1));
             Ok(format!(in alloc; "{answer:?}")?)
         }
         Err(failed) => {
-            let answer = core.fault(grant, failed);
+            let answer = fault(core, grant, failed);
             Ok(format!(in alloc; "{answer:?}")?)
         }
     }
@@ -398,6 +397,15 @@ fn commit<L: Ledger>(
     let mut steps = Steps::<L>::new(blank);
     core.count();
     core.commit(grant, delta, &mut steps)
+}
+
+/// Ends a core by a failure.
+fn fault(core: &mut Core, grant: Grant, failed: Failed) -> Result<(), CommitRefusal>
+    requires { failed.program ≡ core.old.program }
+    ensures { core.new.program ≡ core.old.program }
+{
+    core.count();
+    core.fault(grant, failed)
 }
 
 /// Drops the claim of the grant at a place.

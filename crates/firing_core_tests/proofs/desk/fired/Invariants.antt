@@ -2,4 +2,4 @@
 use Rattle.firing_core_tests.proofs.desk.fired.Given as goal
 
 abbrev pub ghosts-commit : goal.ghosts-commit
-ghosts-commit g a = record { name = a.blank.name; parts = a.blank.parts }
+ghosts-commit a = record { name = a.blank.name; parts = a.blank.parts }
