@@ -275,7 +275,6 @@ fn claimed(
         return Err(Fail::new("the candidate doesn't fit"));
     }
     let before = stand_of(alloc, core)?;
-    core.count();
     match core.claim(alloc, candidate) {
         Ok(grant) => taken(alloc, hand, grant),
         Err(refusal) => refused(alloc, refusal, &before, &stand_of(alloc, core)?),
@@ -298,7 +297,6 @@ fn claimed_anew(
     }
     let before = stand_of(alloc, core)?;
     core.drop_all();
-    core.count();
     match core.claim_clear(alloc, candidate) {
         Ok(grant) => taken(alloc, hand, grant),
         Err(refusal) => refused(alloc, refusal, &before, &stand_of(alloc, core)?),
@@ -395,7 +393,6 @@ fn commit<L: Ledger>(
     ensures { core.new.program ≡ core.old.program }
 {
     let mut steps = Steps::<L>::new(blank);
-    core.count();
     core.commit(grant, delta, &mut steps)
 }
 
@@ -404,7 +401,6 @@ fn fault(core: &mut Core, grant: Grant, failed: Failed) -> Result<(), CommitRefu
     requires { failed.program ≡ core.old.program }
     ensures { core.new.program ≡ core.old.program }
 {
-    core.count();
     core.fault(grant, failed)
 }
 
@@ -423,7 +419,6 @@ fn dropped(
         return Err(Fail::new("no such grant in hand"));
     }
     let grant = hand.remove(place);
-    core.count();
     let answer = core.drop_claim(grant);
     Ok(format!(in alloc; "{answer:?}")?)
 }
