@@ -77,20 +77,21 @@ fn core_at(alloc: Global, program: Arc<Program>, elements: Elements) -> Result<C
     Core::new(alloc, program, base, 1)
 }
 
-/// Whether the first choice can be claimed in a core at this opening, which it then matches.
-fn matches_first(
+/// Whether a candidate can be claimed in a core at this opening, which its choice then matches.
+fn matches_opening(
     alloc: Global,
     program: Arc<Program>,
     elements: Elements,
+    candidate: &Candidate,
 ) -> Result<bool, OutOfMemory>
     requires sound { IsSound program.value }
     requires opening { IsOpening (sizes_of program.value.classes) elements }
-    requires some { 1 ≤ length elements }
-    ensures { IfOk result (λ is. IsTrue is → is_listed program.value elements first ≡ true) }
+    ensures { IfOk result (λ is. IsTrue is →
+        is_listed program.value elements candidate.now.choice ≡ true) }
 {
-    let candidate = first_candidate(alloc, &elements)?;
     let mut core = core_at(alloc, program, elements)?;
-    let claimable = is_claimable(alloc, &mut core, &candidate)?;
+    let claimable = is_claimable(alloc, &mut core, candidate)?;
+    drop(core);
     Ok(claimable)
 }
 
@@ -128,7 +129,9 @@ pub fn core_after_first(
     if elements.is_empty() || !has_one_positive(&program) {
         return Err(Fail::new("no first choice"));
     }
-    if !matches_first(alloc, Arc::try_clone(&program)?, elements.copy(alloc)?)? {
+    let candidate = first_candidate(alloc, &elements)?;
+    let same = Arc::try_clone(&program)?;
+    if !matches_opening(alloc, same, elements.copy(alloc)?, &candidate)? {
         return Err(Fail::new("the first choice doesn't match"));
     }
     let base = base_after_first(alloc, &program, elements, refraction)?;
