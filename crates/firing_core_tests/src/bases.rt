@@ -51,27 +51,48 @@ fn first_candidate(alloc: Global, elements: &Elements) -> Result<Candidate, OutO
     })
 }
 
-/// Whether a core at this opening lets the first choice be claimed, which then matches.
-fn matches_first(
-    alloc: Global,
-    program: Arc<Program>,
-    elements: Elements,
-) -> Result<bool, OutOfMemory>
-    requires sound { IsSound program.value }
-    requires opening { IsOpening (sizes_of program.value.classes) elements }
-    requires some { 1 ≤ length elements }
-    ensures { IfOk result (λ is. IsTrue is → is_listed program.value elements first ≡ true) }
+/// Whether nothing refuses a candidate in a core: its choice then matches.
+fn is_claimable(alloc: Global, core: &mut Core, candidate: &Candidate) -> Result<bool, OutOfMemory>
+    ensures { IfOk result (λ is. IsTrue is →
+        is_listed core.old.program core.old.state.memory candidate.now.choice ≡ true) }
 {
-    let candidate = first_candidate(alloc, &elements)?;
-    let base = Base::opening(alloc, elements, Refraction::Once);
-    let mut core = Core::new(alloc, program, base, 1)?;
     if !candidate.fits(core.program()) {
         return Ok(false);
     }
-    core.count();
-    let is_granted = core.claim(alloc, &candidate).is_ok();
-    core.count();
-    Ok(is_granted)
+    let mut room = Vec::new(alloc);
+    match core.refusal(alloc, candidate, &mut room)? {
+        Some(_) => Ok(false),
+        None => Ok(true),
+    }
+}
+
+/// A core at this opening.
+fn core_at(alloc: Global, program: Arc<Program>, elements: Elements) -> Result<Core, OutOfMemory>
+    requires sound { IsSound program.value }
+    requires opening { IsOpening (sizes_of program.value.classes) elements }
+    ensures program { IfOk result (λ core. core.program ≡ program.value) }
+    ensures memory { IfOk result (λ core. core.state.memory ≡ elements) }
+{
+    let base = Base::opening(alloc, elements, Refraction::Once);
+    Core::new(alloc, program, base, 1)
+}
+
+/// Whether a candidate can be claimed in a core at this opening, which its choice then matches.
+fn matches_opening(
+    alloc: Global,
+    program: Arc<Program>,
+    elements: Elements,
+    candidate: &Candidate,
+) -> Result<bool, OutOfMemory>
+    requires sound { IsSound program.value }
+    requires opening { IsOpening (sizes_of program.value.classes) elements }
+    ensures { IfOk result (λ is. IsTrue is →
+        is_listed program.value elements candidate.now.choice ≡ true) }
+{
+    let mut core = core_at(alloc, program, elements)?;
+    let claimable = is_claimable(alloc, &mut core, candidate)?;
+    drop(core);
+    Ok(claimable)
 }
 
 /// The base with these elements on which the first choice has fired.
@@ -108,7 +129,9 @@ pub fn core_after_first(
     if elements.is_empty() || !has_one_positive(&program) {
         return Err(Fail::new("no first choice"));
     }
-    if !matches_first(alloc, Arc::try_clone(&program)?, elements.copy(alloc)?)? {
+    let candidate = first_candidate(alloc, &elements)?;
+    let same = Arc::try_clone(&program)?;
+    if !matches_opening(alloc, same, elements.copy(alloc)?, &candidate)? {
         return Err(Fail::new("the first choice doesn't match"));
     }
     let base = base_after_first(alloc, &program, elements, refraction)?;
