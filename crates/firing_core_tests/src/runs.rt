@@ -1,16 +1,19 @@
 //! Runs to their ending: under both refractions, from a base on which a choice has fired before, and finished a
 //! second time; and which choices are fired at their end.
 
-ghost use Rattle.std.specs.Prelude.{◌^◌, ◌<◌, length};
+ghost use Rattle.std.specs.Prelude.{◌≡◌, ◌∷◌, [], ◌^◌, ◌<◌, ◌≤◌, IfOk, Some, length, option_map, slice_get};
+ghost use Rattle.std.specs.Bool.{OnTrue};
+ghost use Rattle.rule_base.specs.declared.program.Rule.{Rule};
+ghost use Rattle.rule_base.specs.Base.{IsLawfulBase};
 ghost use Rattle.rule_base.specs.Ending.{IsBudget};
-ghost use Rattle.rule_base.specs.Sound.{IsSound};
+ghost use Rattle.rule_base.specs.Opening.{IsOpening};
+ghost use Rattle.rule_base.specs.Sound.{IsSound, sizes_of};
 
-use crate::bases::core_after_first;
 use crate::setting::{opening_of, program_of};
 use commit_journal::Journal;
 use firing_core::{Core, Finished, finish, run_alone};
-use ops_text::OutOfMemory;
-use rule_base::{Base, Program, Refraction};
+use ops_text::{OutOfMemory, Sequence};
+use rule_base::{Base, Choice, Elements, Program, Refraction};
 use std::alloc::Global;
 use std::sync::Arc;
 use std::test::Fail;
@@ -81,7 +84,7 @@ fn run_from_opening(
 
 /// The run of the program of a text from its opening.
 fn run_of(alloc: Global, text: &str, refraction: Refraction, budget: u64) -> Result<Finished, Fail>
-    requires short { length text.now < 100000 }
+    requires short { length text.now < 1000 }
     requires budget { IsBudget budget }
 {
     let program = program_of(alloc, text)?;
@@ -130,11 +133,64 @@ fn what_is_fired_is_told_in_order(rt: HostRuntime) -> Result<(), Fail> {
     Ok(())
 }
 
+/// Whether the rule with number 0 has one positive condition element.
+fn has_one_positive(program: &Program) -> bool
+    ensures { OnTrue result
+        (option_map (λ (rule : Rule). rule.positives) (slice_get program.now.rules 0) ≡ Some 1) }
+{
+    match program.rules.get(0) {
+        Some(rule) => rule.positives == 1,
+        None => false,
+    }
+}
+
+/// The choice of the rule with number 0 for the element with tag 1.
+fn first_choice(alloc: Global) -> Result<Choice, OutOfMemory>
+    ensures { IfOk result (λ choice. choice ≡ record { rule = 0; tags = 1 ∷ [] }) }
+{
+    let mut tags = Sequence::new(alloc);
+    tags.push(1)?;
+    Ok(Choice { rule: 0, tags })
+}
+
+/// The base with these elements on which the first choice has fired.
+fn base_after_first(
+    alloc: Global,
+    program: &Program,
+    elements: Elements,
+) -> Result<Base, OutOfMemory>
+    requires opening { IsOpening (sizes_of program.now.classes) elements }
+    requires positive { option_map (λ (rule : Rule). rule.positives) (slice_get program.now.rules 0) ≡ Some 1 }
+    requires some { 1 ≤ length elements }
+    ensures { IfOk result (IsLawfulBase program.now) }
+{
+    let mut base = Base::opening(alloc, elements, Refraction::Once);
+    base.fired.push(first_choice(alloc)?)?;
+    Ok(base)
+}
+
+/// A core that begins there.
+fn core_after_first(alloc: Global, program: Program) -> Result<Core, Fail>
+    requires sound { IsSound program }
+    requires few_makes { length program.makes < 2 ^ 32 }
+    requires positive { option_map (λ (rule : Rule). rule.positives) (slice_get program.rules 0) ≡ Some 1 }
+{
+    let elements = opening_of(alloc, &program)?;
+    if elements.is_empty() {
+        return Err(Fail::new("no elements"));
+    }
+    let base = base_after_first(alloc, &program, elements)?;
+    Ok(Core::new(alloc, Arc::new(alloc, program)?, base, 10)?)
+}
+
 #[test]
 fn what_has_fired_before_stays_fired(rt: HostRuntime) -> Result<(), Fail> {
-    let text = "(literalize a)(make a)(make a)(p r (a) --> (write x))";
-    let program = Arc::new(rt.alloc(), program_of(rt.alloc(), text)?)?;
-    let core = core_after_first(rt.alloc(), program, Refraction::Once, 10)?;
+    let program = program_of(
+        rt.alloc(),
+        "(literalize a)(make a)(make a)(p r (a) --> (write x))",
+    )?;
+    assert!(rt; has_one_positive(&program));
+    let core = core_after_first(rt.alloc(), program)?;
     let finished = finish(rt.alloc(), core)?;
     let told = told(rt.alloc(), &finished)?;
     assert_eq!(rt; told.as_str(), "0[2] Quiet, elements 2, next 3");
