@@ -1,4 +1,4 @@
-//! Tests of cores, by their public calls: runs to their endings, and which choices are fired then. The
+//! Tests of cores, by their public calls: runs to their endings. The
 //! cores run programs made from texts.
 #![tactic(auto)]
 

@@ -1,5 +1,5 @@
 //! Runs to their ending: under both refractions, from a base on which a choice has fired before, and finished a
-//! second time; and which choices are fired at their end.
+//! second time.
 
 ghost use Rattle.std.specs.Prelude.{◌≡◌, ◌∷◌, [], ◌^◌, ◌<◌, ◌≤◌, IfOk, Some, length, option_map, slice_get};
 ghost use Rattle.std.specs.Bool.{OnTrue};
@@ -19,7 +19,7 @@ use std::sync::Arc;
 use std::test::Fail;
 
 /// The choices that a journal tells, in a line.
-pub fn choices(alloc: Global, journal: &Journal) -> Result<String, OutOfMemory> {
+fn choices(alloc: Global, journal: &Journal) -> Result<String, OutOfMemory> {
     let mut text = String::new(alloc);
     for place in 0..journal.len() {
         let entry = journal.entry(place);
@@ -52,18 +52,6 @@ fn told_twice(alloc: Global, finished: Finished) -> Result<(String, String), Out
     let once = told(alloc, &finished)?;
     let again = told_to_end(alloc, finished.core)?;
     Ok((once, again))
-}
-
-/// The choices that are fired in a core, in a line.
-fn told_fired(alloc: Global, core: Core) -> Result<String, OutOfMemory> {
-    let mut core = core;
-    let mut text = String::new(alloc);
-    let fired = core.fired(alloc)?;
-    for choice in fired.as_slice() {
-        let tags = choice.tags.as_slice();
-        text.push_str(&format!(in alloc; "{}{tags:?} ", choice.rule)?)?;
-    }
-    Ok(text)
 }
 
 /// The run of a program from its opening.
@@ -111,24 +99,6 @@ fn a_run_ends_by_its_refraction(rt: HostRuntime) -> Result<(), Fail> {
         let (once, again) = told_twice(rt.alloc(), finished)?;
         assert_eq!(rt; once.as_str(), want);
         assert_eq!(rt; again.as_str(), want, "finished again");
-    }
-    Ok(())
-}
-
-#[test]
-fn what_is_fired_is_told_in_order(rt: HostRuntime) -> Result<(), Fail> {
-    let text = "(literalize a)(literalize b)(make a)\
-        (p later (b) --> (write later))\
-        (p first (a) -(b) --> (make b))";
-    let rows = [
-        (Refraction::Once, "0[2] 1[1] "),
-        // what fired first has stopped matching by what it made
-        (Refraction::Renewed, "0[2] "),
-    ];
-    for (refraction, want) in rows {
-        let finished = run_of(rt.alloc(), text, refraction, 10)?;
-        let told = told_fired(rt.alloc(), finished.core)?;
-        assert_eq!(rt; told.as_str(), want);
     }
     Ok(())
 }
@@ -191,10 +161,7 @@ fn what_has_fired_before_stays_fired(rt: HostRuntime) -> Result<(), Fail> {
     )?;
     assert!(rt; has_one_positive(&program));
     let core = core_after_first(rt.alloc(), program)?;
-    let finished = finish(rt.alloc(), core)?;
-    let told = told(rt.alloc(), &finished)?;
+    let told = told_to_end(rt.alloc(), core)?;
     assert_eq!(rt; told.as_str(), "0[2] Quiet, elements 2, next 3");
-    let fired = told_fired(rt.alloc(), finished.core)?;
-    assert_eq!(rt; fired.as_str(), "0[1] 0[2] ");
     Ok(())
 }
