@@ -86,7 +86,7 @@ pieces_of-beside firings tags gone born pieces have =
     ∙ flat_map-seconds (λ (q : List Element × List Piece). q.1) gone (zip born pieces) (have.of_gone ∙ sym (with_pieces n tags gone born pieces have))
     ∙ flat_map-seconds (λ (list : List Piece). list) born pieces (have.of_born ∙ sym have.of_pieces)
 
-born_by-entry : (gone : List ℕ) (born : List Element) → filter_map born_by (map Gone gone ++ map Born born) ≡ born
+pub born_by-entry : (gone : List ℕ) (born : List Element) → filter_map born_by (map Gone gone ++ map Born born) ≡ born
 born_by-entry [] [] = refl
 born_by-entry [] (e ∷ born) = ap (λ rest. e ∷ rest) (born_by-entry [] born)
 born_by-entry (tag ∷ gone) born = born_by-entry gone born

@@ -16,12 +16,7 @@ use Rattle.commit_journal.specs.EntryViews.{born_of, entry_in}
 use Rattle.element_tests.specs.Asking.{MayAsk}
 use Rattle.firing_core.specs.Matching.{MayFilter}
 use Rattle.firing_core.proofs.MatchingLemmas.{Each-split}
-
--- what an entry gave birth to, as its view shows it
-born_by-entry : (gone : List ℕ) (new : List Element) → filter_map born_by (map Gone gone ++ map Born new) ≡ new
-born_by-entry [] [] = refl
-born_by-entry [] (e ∷ new) = ap (λ rest. e ∷ rest) (born_by-entry [] new)
-born_by-entry (tag ∷ gone) new = born_by-entry gone new
+use Rattle.commit_journal.proofs.EntryLemmas.{born_by-entry}
 
 -- from an entry on: what it gave birth to, and what the later ones did
 born_in-next : (entries : List Entry) (place : ℕ) (view : EntryView) → slice_get entries place ≡ Some (entry_in view) → born_in (drop place entries) ≡ born_of view ++ born_in (drop (place + 1) entries)

@@ -17,40 +17,38 @@ use Rattle.rule_base.specs.declared.instantiation.Candidate.{Candidate}
 use Rattle.rule_base.specs.declared.program.Rule.{Rule}
 use Rattle.rule_base.specs.declared.program.Program.{Program}
 use Rattle.rule_base.specs.Bindings.{Bindings}
-use Rattle.rule_base.specs.Chains.{only_if}
+use Rattle.rule_base.specs.Chains.{only_if, first_answer}
 use Rattle.rule_base.specs.Match.{match_of}
-use Rattle.rule_base.specs.Memory.{Memory, Rises, element_at, elements_at, tags_of}
-use Rattle.rule_base.specs.State.{count, has_fired, same_choice, same_tags}
+use Rattle.rule_base.specs.Memory.{Memory, Rises, element_at, elements_at, tags_of, same_element}
+use Rattle.rule_base.specs.State.{count, has_fired, same_choice}
 use Rattle.rule_base.specs.Step.{is_listed}
 use Rattle.rule_base.specs.Value.{same_value}
 use Rattle.rule_base.proofs.EachLemmas.{Each-append, Each-weaker}
 use Rattle.rule_base.proofs.ListedLemmas.{list_any-matches}
 use Rattle.rule_base.proofs.MemoryLemmas.{AllFound-rising}
 use Rattle.interference.specs.Footprint.{Clash, demands, footprint, gathered}
-use Rattle.interference.specs.Pins.{first_answer}
 use Rattle.interference.specs.Splits.{splits_of}
 use Rattle.interference.specs.WordLaws.{IsClear}
 use Rattle.interference.proofs.DemandCodeLemmas.{Rises-gathered, locks_of}
 use Rattle.interference.proofs.MatchedLemmas.{matches-match_of}
 use Rattle.interference.proofs.OptionLemmas.{Held-some, both_hold}
-use Rattle.interference.proofs.WordLemmas.{words_tell_clashes}
+use Rattle.interference.proofs.WordLemmas.{mapped_none, words_tell_clashes}
 use Rattle.standing_claims.specs.declared.claim.Claim.{Claim}
+use Rattle.standing_claims.specs.Standing.{claim_of_choice, is_full}
 use Rattle.firing_core.specs.declared.claims.How.TheVariants as how
 use Rattle.firing_core.specs.declared.claims.ClaimRefusal.TheVariants as refusal
 use Rattle.firing_core.specs.CoreState.{CoreState, ended}
-use Rattle.firing_core.specs.Refusals.{busy_lock, claim_of_choice, claim_refusal, failing_condition, gone_tag, is_full, same_element, claimed_footprints}
-use Rattle.firing_core.specs.Events.{is_fitting, with_claim}
+use Rattle.firing_core.specs.Refusals.{busy_lock, claim_refusal, failing_condition, gone_tag, claimed_footprints}
+use Rattle.firing_core.specs.Events.{with_claim}
 use Rattle.firing_core.specs.Lawful.{GoTogether, IsHeld, IsLawful, IsEndingFault}
 use Rattle.firing_core.proofs.PairLemmas.{EachPair-push}
+use Rattle.rule_base.specs.Numbers.{same_numbers}
+use Rattle.rule_base.specs.Fits.{is_fitting}
 
 -- of several that may be there, none is
 none_first : {A : Type 0} (o : Option A) (os : List (Option A)) → first_answer (λ o. o) (o ∷ os) ≡ None → (o ≡ None) × (first_answer (λ o. o) os ≡ None)
 none_first None os none = (refl, none)
 none_first (Some a) os none = absurd (let wrong : ⊥ = cc in wrong)
-
-unmapped : {A B : Type 0} (f : A → B) (o : Option A) → option_map f o ≡ None → o ≡ None
-unmapped f None none = refl
-unmapped f (Some a) none = absurd (let wrong : ⊥ = cc in wrong)
 
 unheld : {A : Type 0} (b : Bool) (a : A) → only_if b a ≡ None → b ≡ false
 unheld true a none = absurd (let wrong : ⊥ = cc in wrong)
@@ -102,13 +100,13 @@ pub record IsClaimable (k : CoreState) (candidate : Candidate) : Type 0 where
   pub there : gone_tag k.state.memory candidate.elements ≡ None
   pub matched : failing_condition k.program k.state.memory candidate.choice ≡ None
   pub unfired : has_fired k.state candidate.choice ≡ false
-  pub unclaimed : claim_of_choice k candidate.choice ≡ None
-  pub room : is_full k ≡ false
+  pub unclaimed : claim_of_choice k.claims candidate.choice ≡ None
+  pub room : is_full k.given (length k.claims) ≡ false
 
 pub IsClaimable-none : (k : CoreState) (candidate : Candidate) → claim_refusal k candidate ≡ None → IsClaimable k candidate
 IsClaimable-none k candidate none =
-    let claimed = option_map (λ (claim : Claim). refusal.Claimed claim.number) (claim_of_choice k candidate.choice) in
-    let full = only_if (is_full k) (refusal.Full k.given (length k.claims)) in
+    let claimed = option_map (λ (claim : Claim). refusal.Claimed claim.number) (claim_of_choice k.claims candidate.choice) in
+    let full = only_if (is_full k.given (length k.claims)) (refusal.Full k.given (length k.claims)) in
     let fired = only_if (has_fired k.state candidate.choice) refusal.Fired in
     let unmatched = option_map refusal.Unmatched (failing_condition k.program k.state.memory candidate.choice) in
     let gone = option_map refusal.Gone (gone_tag k.state.memory candidate.elements) in
@@ -122,13 +120,13 @@ IsClaimable-none k candidate none =
     let six = none_first claimed (full ∷ []) five.1 in
     let seven = none_first full [] six.1 in
     record {
-      free = unmapped refusal.Busy (busy_lock k candidate) one.0;
-      going = unmapped refusal.Ended (ended k) two.0;
-      there = unmapped refusal.Gone (gone_tag k.state.memory candidate.elements) three.0;
-      matched = unmapped refusal.Unmatched (failing_condition k.program k.state.memory candidate.choice) four.0;
+      free = mapped_none refusal.Busy (busy_lock k candidate) one.0;
+      going = mapped_none refusal.Ended (ended k) two.0;
+      there = mapped_none refusal.Gone (gone_tag k.state.memory candidate.elements) three.0;
+      matched = mapped_none refusal.Unmatched (failing_condition k.program k.state.memory candidate.choice) four.0;
       unfired = unheld (has_fired k.state candidate.choice) refusal.Fired five.0;
-      unclaimed = unmapped (λ (claim : Claim). refusal.Claimed claim.number) (claim_of_choice k candidate.choice) six.0;
-      room = unheld (is_full k) (refusal.Full k.given (length k.claims)) seven.0;
+      unclaimed = mapped_none (λ (claim : Claim). refusal.Claimed claim.number) (claim_of_choice k.claims candidate.choice) six.0;
+      room = unheld (is_full k.given (length k.claims)) (refusal.Full k.given (length k.claims)) seven.0;
     }
 
 -- a search that finds nothing
@@ -224,10 +222,10 @@ lawful_with : (k : CoreState) (candidate : Candidate) → IsLawful k → Rises (
 lawful_with k candidate lawful rises fits claimable =
     let claims = lawful.claims in
     let c = candidate.choice in
-    let outer = both_hold (same_tags (tags_of candidate.elements) c.tags && option_map_or (λ (rule : Rule). rule.positives == length candidate.elements) (slice_get k.program.rules c.rule) false) _ fits in
-    let inner = both_hold (same_tags (tags_of candidate.elements) c.tags) (option_map_or (λ (rule : Rule). rule.positives == length candidate.elements) (slice_get k.program.rules c.rule) false) outer.0 in
+    let outer = both_hold (same_numbers (tags_of candidate.elements) c.tags && option_map_or (λ (rule : Rule). rule.positives == length candidate.elements) (slice_get k.program.rules c.rule) false) _ fits in
+    let inner = both_hold (same_numbers (tags_of candidate.elements) c.tags) (option_map_or (λ (rule : Rule). rule.positives == length candidate.elements) (slice_get k.program.rules c.rule) false) outer.0 in
     let tags : tags_of candidate.elements ≡ c.tags = (bytes_eq-Decides (tags_of candidate.elements) c.tags).0 inner.0 in
-    let there = each_fails (λ (e : Element). not (list_any (same_element e) k.state.memory)) candidate.elements (unmapped (λ (e : Element). e.tag) (find (λ (e : Element). not (list_any (same_element e) k.state.memory)) candidate.elements) claimable.there) in
+    let there = each_fails (λ (e : Element). not (list_any (same_element e) k.state.memory)) candidate.elements (mapped_none (λ (e : Element). e.tag) (find (λ (e : Element). not (list_any (same_element e) k.state.memory)) candidate.elements) claimable.there) in
     let elements : elements_at k.state.memory c.tags ≡ candidate.elements = ap (elements_at k.state.memory) (sym tags) ∙ elements_there k.state.memory candidate.elements rises there in
     let room = either_fails (k.given == 2 ^ 64 - 1) (length k.claims == 4095) claimable.room in
     let few_given : k.given < 2 ^ 64 - 1 = search (arith, claims.few_given, differ_by k.given (2 ^ 64 - 1) room.0) in

@@ -39,6 +39,7 @@ use Rattle.firing_core.proofs.FireLemmas.{born_in-push, index_after}
 use Rattle.firing_core.proofs.GroupedLemmas.{IsGrouping-later}
 use Rattle.firing_core.proofs.GrantLemmas.{StandsFor, committed, held, may_fire-held}
 use Rattle.firing_core.proofs.KeptLemmas.{IsWithout, fitting_left, footprints_left}
+use Rattle.interference.proofs.LockLemmas.{length-tags}
 
 -- the fields before the commit of a claim, its grant, and its effect
 pub record MayCommit (before : Inside) (grant : Granted) (done : Effect) : Type 0 where
@@ -57,10 +58,6 @@ there before grant done may = (IsFound-find (λ (c : Claim). c.number == grant.n
 fits_grant : (before : Inside) (grant : Granted) (done : Effect) → (may : MayCommit before grant done) → Fits before.program.value may.stands.claim.candidate
 fits_grant before grant done may =
     Each-among (λ (claim : Claim). Fits before.program.value claim.candidate) before.claims.claims may.stands.claim may.holds.fitting (there before grant done may)
-
-length-tags : (elements : List Element) → length (tags_of elements) ≡ length elements
-length-tags [] = refl
-length-tags (e ∷ elements) = omega (arith, length-tags elements)
 
 -- the rule of a choice that has an effect
 record IsOfRule (before : Inside) (c : Choice) (done : Effect) : Type 0 where

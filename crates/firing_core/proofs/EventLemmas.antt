@@ -25,11 +25,12 @@ use Rattle.interference.proofs.ModeLemmas.{goes-symmetric}
 use Rattle.interference.proofs.OptionLemmas.{Gave-some, GaveMapped-some, Held-some}
 use Rattle.interference.proofs.UndisturbedLemmas.{IsUndisturbed-step}
 use Rattle.standing_claims.specs.declared.claim.Claim.{Claim}
+use Rattle.standing_claims.specs.Standing.{claim_numbered}
 use Rattle.firing_core.specs.declared.claims.FaultSeen.{FaultSeen}
 use Rattle.firing_core.specs.declared.claims.Event.{Event}
 use Rattle.firing_core.specs.declared.claims.Event.TheVariants as event
 use Rattle.firing_core.specs.CoreState.{CoreState, ended}
-use Rattle.firing_core.specs.Events.{after_commit, after_fault, after_firing, apply, claim_numbered, fold, unless_ended, with_claim, with_state, without_claim, without_claims}
+use Rattle.firing_core.specs.Events.{after_commit, after_fault, after_firing, apply, fold, unless_ended, with_claim, with_state, without_claim, without_claims}
 use Rattle.firing_core.specs.Lawful.{AreLawfulClaims, GoTogether, IsHeld, IsLawful, IsEndingFault}
 use Rattle.firing_core.specs.FinishedRun.{GoesOn}
 use Rattle.firing_core.proofs.PairLemmas.{AreLawful-none, Among-filtered, EachPair-filter, EachPair-two, length-filter}
@@ -45,7 +46,7 @@ pub record Stands (k : CoreState) (number : ℕ) (claim : Claim) : Type 0 where
   pub there : Among claim k.claims
   pub is : claim.number ≡ number
 
-pub Stands-numbered : (k : CoreState) (number : ℕ) (claim : Claim) → claim_numbered k number ≡ Some claim → Stands k number claim
+pub Stands-numbered : (k : CoreState) (number : ℕ) (claim : Claim) → claim_numbered k.claims number ≡ Some claim → Stands k number claim
 Stands-numbered k number claim at =
     let found = IsFound-find (λ (c : Claim). c.number == number) k.claims claim at in
     record { there = found.there; is = (Decides-eqb claim.number number).0 found.passes }
@@ -184,8 +185,8 @@ pub record IsOfClaim (after : CoreState → Claim → Option CoreState) (k : Cor
 
 pub IsOfClaim-some : (after : CoreState → Claim → Option CoreState) (k : CoreState) (number : ℕ) (last : CoreState) → IsLawful k → unless_ended after k number ≡ Some last → IsOfClaim after k number last
 IsOfClaim-some after k number last lawful some =
-    let gave = Gave-some (option_and_then (λ (claim : Claim). only_if (is_none (ended k)) claim) (claim_numbered k number)) (after k) last some in
-    let found = Gave-some (claim_numbered k number) (λ (claim : Claim). only_if (is_none (ended k)) claim) gave.first gave.is in
+    let gave = Gave-some (option_and_then (λ (claim : Claim). only_if (is_none (ended k)) claim) (claim_numbered k.claims number)) (after k) last some in
+    let found = Gave-some (claim_numbered k.claims number) (λ (claim : Claim). only_if (is_none (ended k)) claim) gave.first gave.is in
     let test = Held-some (is_none (ended k)) found.first gave.first found.next_is in
     record {
       claim = found.first;
@@ -216,7 +217,7 @@ IsLawful-apply k after (event.Claimed candidate) lawful is = IsLawful-claimed k 
 IsLawful-apply k after (event.Committed number) lawful is = IsLawful-commit k after number lawful (IsOfClaim-some after_commit k number after lawful is)
 IsLawful-apply k after (event.Faulted number) lawful is = IsLawful-fault k after number lawful (IsOfClaim-some after_fault k number after lawful is)
 IsLawful-apply k after (event.Dropped number) lawful is =
-    let held = Held-some (is_some (claim_numbered k number)) (without_claim k number) after is in
+    let held = Held-some (is_some (claim_numbered k.claims number)) (without_claim k number) after is in
     subst IsLawful held.same (IsLawful-dropped k number lawful)
 
 -- and a list of them
@@ -267,7 +268,7 @@ GoesOn-apply k after (event.Claimed candidate) lawful is =
 GoesOn-apply k after (event.Committed number) lawful is = GoesOn-commit k after number (IsOfClaim-some after_commit k number after lawful is)
 GoesOn-apply k after (event.Faulted number) lawful is = GoesOn-fault k after number (IsOfClaim-some after_fault k number after lawful is)
 GoesOn-apply k after (event.Dropped number) lawful is =
-    let held = Held-some (is_some (claim_numbered k number)) (without_claim k number) after is in
+    let held = Held-some (is_some (claim_numbered k.claims number)) (without_claim k number) after is in
     subst (GoesOn k) held.same (GoesOn-same k (without_claim k number) refl refl refl refl)
 
 pub GoesOn-fold : (k after : CoreState) (events : List Event) → IsLawful k → fold k events ≡ Some after → GoesOn k after

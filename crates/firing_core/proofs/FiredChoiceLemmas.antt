@@ -22,7 +22,7 @@ use Rattle.rule_base.specs.Match.{match_of}
 use Rattle.rule_base.specs.Memory.{Memory, Rises, tags_of}
 use Rattle.rule_base.specs.Run.{run}
 use Rattle.rule_base.specs.Sound.{IsSound}
-use Rattle.rule_base.specs.State.{State, choices_of, has_fired, same_choice, same_tags, start}
+use Rattle.rule_base.specs.State.{State, choices_of, has_fired, same_choice, start}
 use Rattle.rule_base.specs.Step.{is_listed, matches}
 use Rattle.rule_base.proofs.BaseLemmas.{IsLawfulBase-run}
 use Rattle.rule_base.proofs.ChoiceLemmas.{any_filter, same_choice-equal, same_choice-itself}
@@ -37,6 +37,7 @@ use Rattle.firing_core.specs.FiredChoices.{AreFired, AreInOrder, choice_order, e
 use Rattle.firing_core.specs.CoreLaws.{FiredMakeBases}
 use Rattle.firing_core.specs.Refusals.{failing_condition}
 use Rattle.firing_core.specs.Unfired.{is_fired_by}
+use Rattle.rule_base.specs.Numbers.{same_numbers}
 
 -- what has a last firing is what had fired at some time
 either_is : (o : Option ℕ) (b : Bool) (n : ℕ) → is_some (option_or o (only_if b n)) ≡ (b || is_some o)
@@ -118,7 +119,7 @@ choice_order_total = then_total (on_total (λ (c : Choice). c.rule) nat_cmp_tota
 
 -- choices that it doesn't tell apart are the same
 pub same_choice-ties : (c d : Choice) → same_choice c d ≡ eq_by_cmp choice_order c d
-same_choice-ties c d = both_tied (c.rule == d.rule) (same_tags c.tags d.tags) (nat_cmp c.rule d.rule) (slice_cmp nat_cmp c.tags d.tags) (unsigned_ties c.rule d.rule) (texts_ties c.tags d.tags)
+same_choice-ties c d = both_tied (c.rule == d.rule) (same_numbers c.tags d.tags) (nat_cmp c.rule d.rule) (slice_cmp nat_cmp c.tags d.tags) (unsigned_ties c.rule d.rule) (texts_ties c.tags d.tags)
 
 -- each once
 any_once : (a b rest : Bool) → a ≡ b → (a || rest) ≡ (a || (b || rest))

@@ -8,16 +8,12 @@ use Rattle.rule_base.specs.declared.element.Element.{Element}
 use Rattle.rule_base.specs.declared.instantiation.Candidate.{Candidate}
 use Rattle.rule_base.specs.declared.program.Rule.{Rule}
 use Rattle.rule_base.specs.declared.program.Program.{Program}
-use Rattle.rule_base.specs.Fits.{Fits}
+use Rattle.rule_base.specs.Fits.{Fits, has_size, is_fitting}
 use Rattle.rule_base.specs.Memory.{HasSize, tags_of}
 use Rattle.rule_base.specs.Sound.{sizes_of}
-use Rattle.rule_base.specs.State.{same_tags}
 use Rattle.interference.proofs.OptionLemmas.{both_hold}
-use Rattle.firing_core.specs.Events.{has_size, is_fitting}
-
-and_both : (a b : Bool) → a ≡ true → b ≡ true → (a && b) ≡ true
-and_both true b first second = second
-and_both false b first second = first
+use Rattle.rule_base.specs.Numbers.{same_numbers}
+use Rattle.interference.proofs.WordLemmas.{and_both}
 
 -- one number that may be there
 there_by : {X : Type 0} (f : X → ℕ) (n : ℕ) (o : Option X) → option_map_or (λ x. f x == n) o false ≡ true → option_map f o ≡ Some n
@@ -48,7 +44,7 @@ sizes_to sizes (e ∷ elements) all = and_both (has_size sizes e) (list_all (has
 
 pub fitting_is_decided : (program : Program) (candidate : Candidate) → (is_fitting program candidate ≡ true) ↔ Fits program candidate
 fitting_is_decided program candidate =
-    let tags = same_tags (tags_of candidate.elements) candidate.choice.tags in
+    let tags = same_numbers (tags_of candidate.elements) candidate.choice.tags in
     let o = slice_get program.rules candidate.choice.rule in
     let n = length candidate.elements in
     let positives = option_map_or (λ (rule : Rule). rule.positives == n) o false in

@@ -5,11 +5,11 @@ use Rattle.std.specs.List.{list_any}
 use Rattle.std.specs.Option.{option_map_or}
 use Rattle.std.proofs.lemmas.Bool.{eqb-true}
 use Rattle.rule_base.specs.declared.element.Element.{Element}
-use Rattle.rule_base.specs.Memory.{Memory, Rises, RisesFrom, element_at, tags_of}
+use Rattle.rule_base.specs.Memory.{Memory, Rises, RisesFrom, element_at, tags_of, same_element}
 use Rattle.rule_base.specs.Value.{same_value}
 use Rattle.rule_base.proofs.MemoryLemmas.{Rises-from_above}
 use Rattle.rule_base.proofs.StepByStepLemmas.{drop_next}
-use Rattle.firing_core.specs.Refusals.{gone_tag, same_element}
+use Rattle.firing_core.specs.Refusals.{gone_tag}
 
 -- whether the other element has the class and the values of this one
 abbrev pub is_like : Element → Element → Bool

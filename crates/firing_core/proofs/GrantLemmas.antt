@@ -12,7 +12,7 @@ use Rattle.rule_base.specs.declared.program.Rule.{Rule}
 use Rattle.rule_base.specs.declared.program.Program.{Program}
 use Rattle.rule_base.specs.Chains.{only_if}
 use Rattle.rule_base.specs.Effect.{Effect, Failure, effect}
-use Rattle.rule_base.specs.Memory.{elements_at}
+use Rattle.rule_base.specs.Memory.{elements_at, same_element}
 use Rattle.rule_base.specs.State.{State, has_fired, same_choice}
 use Rattle.rule_base.specs.Step.{effect_of, matches, may_fire, step}
 use Rattle.rule_base.proofs.AmongLemmas.{IsFound-find}
@@ -23,6 +23,7 @@ use Rattle.interference.proofs.ListLemmas.{Each-among}
 use Rattle.interference.proofs.MatchedLemmas.{matches-listed}
 use Rattle.interference.proofs.OptionLemmas.{Gave-some, Held-some, both_hold}
 use Rattle.standing_claims.specs.declared.claim.Claim.{Claim}
+use Rattle.standing_claims.specs.Standing.{claim_numbered}
 use Rattle.firing_core.specs.declared.claims.FaultSeen.{FaultSeen}
 use Rattle.firing_core.specs.declared.claims.CommitRefusal.{CommitRefusal}
 use Rattle.firing_core.specs.declared.claims.CommitRefusal.TheVariants.{Ended, Foreign}
@@ -31,22 +32,21 @@ use Rattle.firing_core.specs.declared.claims.Event.TheVariants as event
 use Rattle.firing_core.specs.declared.claims.How.{How}
 use Rattle.firing_core.specs.Answers.{after_ending, claim_of, commit_refusal, is_for, is_granted, turned_away}
 use Rattle.firing_core.specs.CoreState.{CoreState, ended}
-use Rattle.firing_core.specs.Events.{after_commit, after_fault, after_firing, apply, claim_numbered, unless_ended, with_state, without_claim}
+use Rattle.firing_core.specs.Events.{after_commit, after_fault, after_firing, apply, unless_ended, with_state, without_claim}
 use Rattle.firing_core.specs.Grants.{Granted}
 use Rattle.firing_core.specs.Lawful.{IsHeld, IsLawful}
 use Rattle.rule_base.specs.Value.{same_value}
-use Rattle.firing_core.specs.Refusals.{same_element}
 use Rattle.firing_core.proofs.ClaimLemmas.{IsGoing-ended, same_element-equal, same_value-Decides}
 use Rattle.firing_core.proofs.EventLemmas.{IsState-lawful}
 
 -- a claim that stands, of the grant's number and choice
 pub record IsClaimOf (k : CoreState) (grant : Granted) (claim : Claim) : Type 0 where
-  pub numbered : claim_numbered k grant.number ≡ Some claim
+  pub numbered : claim_numbered k.claims grant.number ≡ Some claim
   pub choice : claim.candidate.choice ≡ grant.candidate.choice
 
 IsClaimOf-some : (k : CoreState) (grant : Granted) (claim : Claim) → claim_of k grant ≡ Some claim → IsClaimOf k grant claim
 IsClaimOf-some k grant claim is =
-    let gave = Gave-some (claim_numbered k grant.number) (λ (c : Claim). only_if (same_choice c.candidate.choice grant.candidate.choice) c) claim is in
+    let gave = Gave-some (claim_numbered k.claims grant.number) (λ (c : Claim). only_if (same_choice c.candidate.choice grant.candidate.choice) c) claim is in
     let held = Held-some (same_choice gave.first.candidate.choice grant.candidate.choice) gave.first claim gave.next_is in
     record {
       numbered = gave.is ∙ ap (λ c. Some c) held.same;
@@ -133,7 +133,7 @@ effect_of-granted k grant rule elements r lawful is there comes =
     ∙ ap (λ es. Some (effect (rule_at k.program rule) es)) elements_are ∙ ap (λ x. Some x) comes
 
 -- an event of a claim that stands, in a core that hasn't ended
-event_of : (after : CoreState → Claim → Option CoreState) (k : CoreState) (number : ℕ) (claim : Claim) → claim_numbered k number ≡ Some claim → ended k ≡ None → unless_ended after k number ≡ after k claim
+event_of : (after : CoreState → Claim → Option CoreState) (k : CoreState) (number : ℕ) (claim : Claim) → claim_numbered k.claims number ≡ Some claim → ended k ≡ None → unless_ended after k number ≡ after k claim
 event_of after k number claim numbered going =
     ap (λ o. option_and_then (after k) (option_and_then (λ (c : Claim). only_if (is_none (ended k)) c) o)) numbered
     ∙ ap (λ o. option_and_then (after k) (only_if (is_none o) claim)) going

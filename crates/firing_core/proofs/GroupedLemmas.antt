@@ -16,8 +16,7 @@ use Rattle.commit_journal.specs.Entries.{born_by, born_in}
 use Rattle.element_tests.specs.Asking.{MayAsk}
 use Rattle.working_memory.specs.declared.groups.Key.{Key}
 use Rattle.working_memory.specs.Groups.{group, same_key}
-use Rattle.working_memory.specs.Memory.{has_place}
-use Rattle.working_memory.proofs.PlaceLemmas.{filter-all, has_place-filter}
+use Rattle.working_memory.proofs.PlaceLemmas.{filter-all, has_number-filter}
 use Rattle.firing_core.specs.Grouped.{Grouping, IsGroupingOf, IsWholeGroupingOf}
 use Rattle.firing_core.specs.PinnedKeys.{is_grouped, pinned_key}
 use Rattle.firing_core.specs.Matching.{MayFilter}
@@ -26,6 +25,8 @@ use Rattle.firing_core.proofs.KeyLemmas.{HasPinnedKey-accepted}
 use Rattle.firing_core.proofs.MatchingLemmas.{Each-split}
 use Rattle.firing_core.proofs.StoreLemmas.{at_places-append, get_before}
 use Rattle.firing_core.proofs.StoredLemmas.{living_at-append, living_is}
+use Rattle.rule_base.specs.Numbers.{has_number}
+use Rattle.interference.proofs.WordLemmas.{and_both}
 
 -- tests that hold
 or_right : (a b : Bool) → b ≡ true → (a || b) ≡ true
@@ -40,10 +41,6 @@ or_false : (a : Bool) → (a || false) ≡ true → a ≡ true
 or_false true is = refl
 or_false false is = is
 
-and_both : (a b : Bool) → a ≡ true → b ≡ true → (a && b) ≡ true
-and_both true b left right = right
-and_both false b left right = absurd (let wrong : ⊥ = cc in wrong)
-
 same_answer : (a b : Bool) → (a ≡ true → b ≡ true) → (b ≡ true → a ≡ true) → a ≡ b
 same_answer true b forth back = sym (forth refl)
 same_answer false true forth back = back refl
@@ -54,32 +51,32 @@ here_step : (test : ℕ → Bool) (p place : ℕ) (b rest any : Bool) → (p == 
 here_step test p place true rest any is has holds later = or_left (test p) any (ap test (eqb-true p place is) ∙ holds)
 here_step test p place false rest any is has holds later = or_right (test p) any (later has)
 
-any_here : (test : ℕ → Bool) (places : List ℕ) (place : ℕ) → has_place places place ≡ true → test place ≡ true → list_any test places ≡ true
+any_here : (test : ℕ → Bool) (places : List ℕ) (place : ℕ) → has_number places place ≡ true → test place ≡ true → list_any test places ≡ true
 any_here test [] place has holds = absurd (let wrong : ⊥ = cc in wrong)
 any_here test (p ∷ places) place has holds =
-    here_step test p place (p == place) (has_place places place) (list_any test places) refl has holds (λ has'. any_here test places place has' holds)
+    here_step test p place (p == place) (has_number places place) (list_any test places) refl has holds (λ has'. any_here test places place has' holds)
 
 abbrev Found : (ℕ → Bool) → List ℕ → Type 0
-Found test places = (place : ℕ) × (has_place places place ≡ true) × (test place ≡ true)
+Found test places = (place : ℕ) × (has_number places place ≡ true) × (test place ≡ true)
 
 found_step : (test : ℕ → Bool) (p : ℕ) (places : List ℕ) (b any : Bool) → test p ≡ b → (b || any) ≡ true → (any ≡ true → Found test places) → Found test (p ∷ places)
-found_step test p places true any is some later = (p, or_left (p == p) (has_place places p) (eq-eqb p p refl), is)
-found_step test p places false any is some later = let found = later some in (found.0, or_right (p == found.0) (has_place places found.0) found.1, found.2)
+found_step test p places true any is some later = (p, or_left (p == p) (has_number places p) (eq-eqb p p refl), is)
+found_step test p places false any is some later = let found = later some in (found.0, or_right (p == found.0) (has_number places found.0) found.1, found.2)
 
 any_found : (test : ℕ → Bool) (places : List ℕ) → list_any test places ≡ true → Found test places
 any_found test [] any = absurd (let wrong : ⊥ = cc in wrong)
 any_found test (p ∷ places) any = found_step test p places (test p) (list_any test places) refl any (any_found test places)
 
-any_among : (test : ℕ → Bool) (ps qs : List ℕ) → ((place : ℕ) → has_place ps place ≡ true → test place ≡ true → has_place qs place ≡ true) → list_any test ps ≡ true → list_any test qs ≡ true
+any_among : (test : ℕ → Bool) (ps qs : List ℕ) → ((place : ℕ) → has_number ps place ≡ true → test place ≡ true → has_number qs place ≡ true) → list_any test ps ≡ true → list_any test qs ≡ true
 any_among test ps qs among any = let found = any_found test ps any in any_here test qs found.0 (among found.0 found.1 found.2) found.2
 
 -- the working memory is what lives at its places
-all_here : (ps places : List ℕ) → ((place : ℕ) → has_place ps place ≡ true → has_place places place ≡ true) → AllByRecursion (λ p. has_place places p ≡ true) ps
+all_here : (ps places : List ℕ) → ((place : ℕ) → has_number ps place ≡ true → has_number places place ≡ true) → AllByRecursion (λ p. has_number places p ≡ true) ps
 all_here [] places sub = tt
-all_here (p ∷ ps) places sub = (sub p (or_left (p == p) (has_place ps p) (eq-eqb p p refl)), all_here ps places (λ q has. sub q (or_right (p == q) (has_place ps q) has)))
+all_here (p ∷ ps) places sub = (sub p (or_left (p == p) (has_number ps p) (eq-eqb p p refl)), all_here ps places (λ q has. sub q (or_right (p == q) (has_number ps q) has)))
 
 memory_in-living : (s : Stored) → living_at s s.places ≡ memory_in s
-memory_in-living s = ap (at_places (came s.base s.entries)) (filter-all (has_place s.places) s.places (all_here s.places s.places (λ p has. has)))
+memory_in-living s = ap (at_places (came s.base s.entries)) (filter-all (has_number s.places) s.places (all_here s.places s.places (λ p has. has)))
 
 -- some element that lives at places passes where one at some of the places does
 any_living : (test : Element → Bool) (s : Stored) (places : List ℕ) → list_any test (living_at s places) ≡ list_any (λ p. list_any test (living s p)) places
@@ -92,13 +89,13 @@ any_living test s (p ∷ places) =
 -- an element that lives at a place
 record Lives (s : Stored) (place : ℕ) (e : Element) : Type 0 where
   is : living s place ≡ e ∷ []
-  has : has_place s.places place ≡ true
+  has : has_number s.places place ≡ true
   at : slice_get (came s.base s.entries) place ≡ Some e
 
 lives : (test : Element → Bool) (s : Stored) (place : ℕ) → list_any test (living s place) ≡ true → (e : Element) × Lives s place e × (test e ≡ true)
-lives test s place any = by (has_place s.places place) (slice_get (came s.base s.entries) place) refl refl
+lives test s place any = by (has_number s.places place) (slice_get (came s.base s.entries) place) refl refl
   where
-    by : (has : Bool) (o : Option Element) → has ≡ has_place s.places place → slice_get (came s.base s.entries) place ≡ o → (e : Element) × Lives s place e × (test e ≡ true)
+    by : (has : Bool) (o : Option Element) → has ≡ has_number s.places place → slice_get (came s.base s.entries) place ≡ o → (e : Element) × Lives s place e × (test e ≡ true)
     by true (Some e) has at =
         let is : living s place ≡ e ∷ [] = sym (living_is s place true has) ∙ ap option_to_list at in
         (e, record { is = is; has = sym has; at = at }, or_false (test e) (sym (ap (list_any test) is) ∙ any))
@@ -124,16 +121,16 @@ each_step P all places p place e true rest is has first at later =
     (subst (AllByRecursion P) one first).0
 each_step P all places p place e false rest is has first at later = later has
 
-each_at : (P : Element → Type 0) (all : List Element) (places : List ℕ) (place : ℕ) (e : Element) → AllByRecursion P (at_places all places) → has_place places place ≡ true → slice_get all place ≡ Some e → P e
+each_at : (P : Element → Type 0) (all : List Element) (places : List ℕ) (place : ℕ) (e : Element) → AllByRecursion P (at_places all places) → has_number places place ≡ true → slice_get all place ≡ Some e → P e
 each_at P all [] place e each has at = absurd (let wrong : ⊥ = cc in wrong)
 each_at P all (p ∷ places) place e each has at =
     let parts = Each-split P (at_places all (p ∷ [])) (at_places all places) (subst (AllByRecursion P) (at_places-append all (p ∷ []) places) each) in
-    each_step P all places p place e (p == place) (has_place places place) refl has parts.0 at (λ has'. each_at P all places place e parts.1 has' at)
+    each_step P all places p place e (p == place) (has_number places place) refl has parts.0 at (λ has'. each_at P all places place e parts.1 has' at)
 
 each_living : (P : Element → Type 0) (s : Stored) (place : ℕ) → AllByRecursion P (memory_in s) → AllByRecursion P (living s place)
-each_living P s place each = by (has_place s.places place) (slice_get (came s.base s.entries) place) refl refl
+each_living P s place each = by (has_number s.places place) (slice_get (came s.base s.entries) place) refl refl
   where
-    by : (has : Bool) (o : Option Element) → has ≡ has_place s.places place → slice_get (came s.base s.entries) place ≡ o → AllByRecursion P (living s place)
+    by : (has : Bool) (o : Option Element) → has ≡ has_number s.places place → slice_get (came s.base s.entries) place ≡ o → AllByRecursion P (living s place)
     by true (Some e) has at = subst (AllByRecursion P) (sym (ap option_to_list at) ∙ living_is s place true has) (each_at P (came s.base s.entries) s.places place e each (sym has) at, tt)
     by true None has at = subst (AllByRecursion P) (sym (ap option_to_list at) ∙ living_is s place true has) tt
     by false o has at = subst (AllByRecursion P) (living_is s place false has) tt
@@ -148,7 +145,7 @@ pub MayFilter-places : (c : Cond) (s : Stored) (b : Bindings) (places : List ℕ
 MayFilter-places c s b places may = record { asked = all_living (MayAsk c b) s places may.asked; placed = may.placed }
 
 -- the place of an element that is accepted is in the group of the key to which the condition element pins it
-accepted_place : (c : Cond) (s : Stored) (b : Bindings) (g : Grouping) (key : Key) (place : ℕ) → MayFilter c (memory_in s) b → IsWholeGroupingOf g s → pinned_key g.attributes b c ≡ Some key → list_any (λ (e : Element). is_some (accepts c b e)) (living s place) ≡ true → has_place (group g.groups key) place ≡ true
+accepted_place : (c : Cond) (s : Stored) (b : Bindings) (g : Grouping) (key : Key) (place : ℕ) → MayFilter c (memory_in s) b → IsWholeGroupingOf g s → pinned_key g.attributes b c ≡ Some key → list_any (λ (e : Element). is_some (accepts c b e)) (living s place) ≡ true → has_number (group g.groups key) place ≡ true
 accepted_place c s b g key place may whole pinned any =
     let found = lives (λ (e : Element). is_some (accepts c b e)) s place any in
     let e = found.0 in
@@ -170,14 +167,14 @@ accepts_some-group c s b g key may whole pinned =
     ∙ ap (list_any test) (memory_in-living s)
 
 -- cleaning a group leaves what lives
-cleaned_place : (s : Stored) (old new : List ℕ) (same : Bool) (place : ℕ) → new ≡ cond same (filter (has_place s.places) old) old → has_place s.places place ≡ true → has_place old place ≡ true → has_place new place ≡ true
-cleaned_place s old new true place is has was = ap (λ ps. has_place ps place) is ∙ has_place-filter (has_place s.places) old place ∙ and_both (has_place s.places place) (has_place old place) has was
-cleaned_place s old new false place is has was = ap (λ ps. has_place ps place) is ∙ was
+cleaned_place : (s : Stored) (old new : List ℕ) (same : Bool) (place : ℕ) → new ≡ cond same (filter (has_number s.places) old) old → has_number s.places place ≡ true → has_number old place ≡ true → has_number new place ≡ true
+cleaned_place s old new true place is has was = ap (λ ps. has_number ps place) is ∙ has_number-filter (has_number s.places) old place ∙ and_both (has_number s.places place) (has_number old place) has was
+cleaned_place s old new false place is has was = ap (λ ps. has_number ps place) is ∙ was
 
-has_living : (s : Stored) (place : ℕ) (e : Element) → living s place ≡ e ∷ [] → has_place s.places place ≡ true
+has_living : (s : Stored) (place : ℕ) (e : Element) → living s place ≡ e ∷ [] → has_number s.places place ≡ true
 has_living s place e is = (lives (λ x. true) s place (ap (list_any (λ x. true)) is)).1.has
 
-pub IsGrouping-cleaned : (s : Stored) (old new : Grouping) (key : Key) → IsGroupingOf old s → new.seen ≡ old.seen → new.attributes ≡ old.attributes → ((k : Key) → group new.groups k ≡ cond (same_key key k) (filter (has_place s.places) (group old.groups k)) (group old.groups k)) → IsGroupingOf new s
+pub IsGrouping-cleaned : (s : Stored) (old new : Grouping) (key : Key) → IsGroupingOf old s → new.seen ≡ old.seen → new.attributes ≡ old.attributes → ((k : Key) → group new.groups k ≡ cond (same_key key k) (filter (has_number s.places) (group old.groups k)) (group old.groups k)) → IsGroupingOf new s
 IsGrouping-cleaned s old new key was seen attributes cleaned = record {
   within = omega (arith, seen, was.within);
   complete = λ place lt k e is has grouped.

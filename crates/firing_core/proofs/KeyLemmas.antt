@@ -12,14 +12,13 @@ use Rattle.rule_base.specs.declared.condition.Pred.TheVariants.{Eq, Ne, Lt, Le, 
 use Rattle.rule_base.specs.declared.condition.Test.{Test}
 use Rattle.rule_base.specs.declared.condition.Test.TheVariants.{Bind, Cmp, OneOf}
 use Rattle.rule_base.specs.declared.condition.Cond.{Cond}
-use Rattle.rule_base.specs.Chains.{only_if}
+use Rattle.rule_base.specs.Chains.{only_if, first_answer}
 use Rattle.rule_base.specs.Value.{same_value}
-use Rattle.rule_base.specs.Predicate.{holds}
+use Rattle.rule_base.specs.Predicate.{holds, is_equality}
 use Rattle.rule_base.specs.Bindings.{Bindings, binding_of}
 use Rattle.rule_base.specs.Acceptance.{accepts, after_test, after_tests, compared_with}
 use Rattle.element_tests.specs.Asking.{BindsNew, MayAsk}
 use Rattle.element_tests.proofs.PassLemmas.{IsTaken, IsTaken-after_test}
-use Rattle.interference.specs.Pins.{first_answer, is_equality}
 use Rattle.interference.proofs.BindingLemmas.{IsAccepted-accepts, IsCompared-passed}
 use Rattle.interference.proofs.OptionLemmas.{Gave-some, Held-some, both_hold}
 use Rattle.working_memory.specs.declared.groups.Key.{Key}

@@ -7,9 +7,9 @@ use Rattle.rule_base.specs.Memory.{Memory, Rises, RisesFrom, element_at, tags_of
 use Rattle.rule_base.specs.Opening.{AreConsecutive}
 use Rattle.rule_base.specs.Step.{without}
 use Rattle.rule_base.proofs.MemoryLemmas.{AllBelow-consecutive, Rises-append}
-use Rattle.working_memory.specs.Memory.{has_place}
 use Rattle.firing_core.specs.Store.{IsPlaceOf, at_places}
 use Rattle.firing_core.proofs.TagLemmas.{absent-append, same_place}
+use Rattle.rule_base.specs.Numbers.{has_number}
 
 -- consecutive tags rise
 consecutive_from : (low first : ℕ) (elements : List Element) → low < first → AreConsecutive first (tags_of elements) → RisesFrom low (tags_of elements)
@@ -142,14 +142,14 @@ found_step elements rest p place later e (Some x) true rises is of_o of_b found 
     let yes : (x.tag == e.tag) ≡ true = search (rules, tests, tag_is) in
     rw yes (ap (λ y. Some y) same)
 
-found_at : (elements : List Element) (places : List ℕ) (place : ℕ) (e : Element) → Rises (tags_of elements) → slice_get elements place ≡ Some e → element_at (at_places elements places) e.tag ≡ cond (has_place places place) (Some e) None
+found_at : (elements : List Element) (places : List ℕ) (place : ℕ) (e : Element) → Rises (tags_of elements) → slice_get elements place ≡ Some e → element_at (at_places elements places) e.tag ≡ cond (has_number places place) (Some e) None
 found_at elements [] place e rises is = refl
 found_at elements (p ∷ places) place e rises is =
-    ap (λ es. element_at es e.tag) (at_places-cons elements p places) ∙ found_step elements (at_places elements places) p place (has_place places place) e (slice_get elements p) (p == place) rises is refl refl (found_at elements places place e rises is)
+    ap (λ es. element_at es e.tag) (at_places-cons elements p places) ∙ found_step elements (at_places elements places) p place (has_number places place) e (slice_get elements p) (p == place) rises is refl refl (found_at elements places place e rises is)
 
-pub element_at-places : (elements : List Element) (places : List ℕ) (tag place : ℕ) (e : Element) → Rises (tags_of elements) → slice_get elements place ≡ Some e → e.tag ≡ tag → element_at (at_places elements places) tag ≡ cond (has_place places place) (Some e) None
+pub element_at-places : (elements : List Element) (places : List ℕ) (tag place : ℕ) (e : Element) → Rises (tags_of elements) → slice_get elements place ≡ Some e → e.tag ≡ tag → element_at (at_places elements places) tag ≡ cond (has_number places place) (Some e) None
 element_at-places elements places tag place e rises is same =
-    subst (λ t. element_at (at_places elements places) t ≡ cond (has_place places place) (Some e) None) same (found_at elements places place e rises is)
+    subst (λ t. element_at (at_places elements places) t ≡ cond (has_number places place) (Some e) None) same (found_at elements places place e rises is)
 
 -- without the tags of two lists: first without those of the one, then without those of the other
 any_append : (tag : ℕ) (xs ys : List ℕ) → list_any (λ t. t == tag) (xs ++ ys) ≡ (list_any (λ t. t == tag) xs || list_any (λ t. t == tag) ys)

@@ -16,10 +16,11 @@ use Rattle.rule_base.proofs.EachLemmas.{Each-append, Each-filter, Each-weaker}
 use Rattle.commit_journal.specs.Entries.{born_by, born_in}
 use Rattle.commit_journal.proofs.CommitLemmas.{consecutive}
 use Rattle.refraction_index.proofs.StillFiredLemmas.{born_in-entry}
-use Rattle.working_memory.specs.Memory.{Places, has_place}
+use Rattle.working_memory.specs.Memory.{Places}
 use Rattle.working_memory.proofs.PlaceLemmas.{below-range}
 use Rattle.firing_core.specs.Store.{IsPlaceOf, IsSameBesideMemory, IsStored, Stored, at_places, came, living, living_at, memory_in}
 use Rattle.firing_core.proofs.StoreLemmas.{Rises-came, absent-at_places, at_places-append, at_places-more, at_places-new, element_at-places, length-at_places, without-absent, without-append, without-place}
+use Rattle.rule_base.specs.Numbers.{has_number}
 
 -- the tags of all that came rise
 pub Rises-stored : (base : Base) (entries : List Entry) (next : ℕ) (memory : Places) → IsStored base entries next memory → Rises (tags_of (came base entries))
@@ -35,7 +36,7 @@ pub length-stored : (base : Base) (entries : List Entry) (next : ℕ) (memory : 
 length-stored base entries next memory stored = length-at_places (came base entries) memory.places (below-came base entries next memory stored)
 
 -- the element with a tag, where its place is in working memory, where that isn't, and where it has none
-pub found_in : (s : Stored) (tag place : ℕ) (has : Bool) → Rises (tags_of (came s.base s.entries)) → IsPlaceOf (came s.base s.entries) tag (Some place) → has ≡ has_place s.places place → element_at (memory_in s) tag ≡ cond has (slice_get (came s.base s.entries) place) None
+pub found_in : (s : Stored) (tag place : ℕ) (has : Bool) → Rises (tags_of (came s.base s.entries)) → IsPlaceOf (came s.base s.entries) tag (Some place) → has ≡ has_number s.places place → element_at (memory_in s) tag ≡ cond has (slice_get (came s.base s.entries) place) None
 found_in s tag place has rises is told =
     element_at-places (came s.base s.entries) s.places tag place is.0 rises is.1 is.2
     ∙ ap (λ b. cond b (Some is.0) None) (sym told)
@@ -105,7 +106,7 @@ places_next places now first last n before is =
     ∙ ap (λ ps. places ++ ps) (range_next first n)
 
 -- the element at a place, where that is in working memory, and where it isn't
-pub living_is : (s : Stored) (place : ℕ) (has : Bool) → has ≡ has_place s.places place → option_to_list (cond has (slice_get (came s.base s.entries) place) None) ≡ living s place
+pub living_is : (s : Stored) (place : ℕ) (has : Bool) → has ≡ has_number s.places place → option_to_list (cond has (slice_get (came s.base s.entries) place) None) ≡ living s place
 living_is s place true told = rw (sym told) (one (slice_get (came s.base s.entries) place) refl)
   where
     one : (o : Option Element) → slice_get (came s.base s.entries) place ≡ o → option_to_list o ≡ at_places (came s.base s.entries) (place ∷ [])
@@ -117,7 +118,7 @@ living_is s place false told = rw (sym told) refl
 pub living_at-append : (s : Stored) (ps qs : List ℕ) → living_at s (ps ++ qs) ≡ living_at s ps ++ living_at s qs
 living_at-append s ps qs =
     let all = came s.base s.entries in
-    let has = has_place s.places in
+    let has = has_number s.places in
     ap (at_places all) (filter-append has ps qs) ∙ at_places-append all (filter has ps) (filter has qs)
 
 -- the living at one slot more

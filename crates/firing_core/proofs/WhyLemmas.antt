@@ -5,19 +5,19 @@ use Rattle.std.specs.Result.{IsErrAnd}
 use Rattle.rule_base.specs.declared.instantiation.Candidate.{Candidate}
 use Rattle.rule_base.specs.declared.lock.Busy.{Busy}
 use Rattle.rule_base.specs.declared.lock.Mode.{Mode}
-use Rattle.rule_base.specs.Chains.{only_if}
+use Rattle.rule_base.specs.Chains.{only_if, first_answer}
 use Rattle.rule_base.specs.State.{has_fired}
 use Rattle.rule_base.proofs.EachLemmas.{Each-map, Each-slice_get}
 use Rattle.interference.specs.Footprint.{Clash, footprint}
-use Rattle.interference.specs.Pins.{first_answer}
 use Rattle.interference.proofs.WordLemmas.{words_tell_clashes}
 use Rattle.standing_claims.specs.declared.claim.Claim.{Claim}
+use Rattle.standing_claims.specs.Standing.{claim_of_choice, is_full}
 use Rattle.firing_core.specs.declared.claims.ClaimRefusal.{ClaimRefusal}
 use Rattle.firing_core.specs.declared.claims.ClaimRefusal.TheVariants as refusal
 use Rattle.firing_core.specs.Answers.{TellsWhy}
 use Rattle.firing_core.specs.Clear.{IsClear, IsNotBusy}
 use Rattle.firing_core.specs.CoreState.{CoreState, ended}
-use Rattle.firing_core.specs.Refusals.{busy_lock, claim_of_choice, claim_refusal, claimed_footprints, failing_condition, gone_tag, is_full}
+use Rattle.firing_core.specs.Refusals.{busy_lock, claim_refusal, claimed_footprints, failing_condition, gone_tag}
 use Rattle.firing_core.specs.Lawful.{IsLawful}
 use Rattle.firing_core.proofs.ClaimLemmas.{Rises-footprint, clear_of_claims, length-map_claims}
 
@@ -45,8 +45,8 @@ held_other false told busy other is = let wrong : ⊥ = cc in wrong
 
 pub not_busy_told : (k : CoreState) (candidate : Candidate) (told : ClaimRefusal) → busy_lock k candidate ≡ None → claim_refusal k candidate ≡ Some told → IsNotBusy told
 not_busy_told k candidate told free is busy is_busy =
-    let claimed = option_map (λ (claim : Claim). refusal.Claimed claim.number) (claim_of_choice k candidate.choice) in
-    let full = only_if (is_full k) (refusal.Full k.given (length k.claims)) in
+    let claimed = option_map (λ (claim : Claim). refusal.Claimed claim.number) (claim_of_choice k.claims candidate.choice) in
+    let full = only_if (is_full k.given (length k.claims)) (refusal.Full k.given (length k.claims)) in
     let fired = only_if (has_fired k.state candidate.choice) refusal.Fired in
     let unmatched = option_map refusal.Unmatched (failing_condition k.program k.state.memory candidate.choice) in
     let gone = option_map refusal.Gone (gone_tag k.state.memory candidate.elements) in
@@ -58,8 +58,8 @@ not_busy_told k candidate told free is busy is_busy =
     let two = first_other gone (unmatched ∷ fired ∷ claimed ∷ full ∷ []) busy (mapped_other refusal.Gone (gone_tag k.state.memory candidate.elements) busy (λ tag same. let wrong : ⊥ = cc in wrong)) one in
     let three = first_other unmatched (fired ∷ claimed ∷ full ∷ []) busy (mapped_other refusal.Unmatched (failing_condition k.program k.state.memory candidate.choice) busy (λ n same. let wrong : ⊥ = cc in wrong)) two in
     let four = first_other fired (claimed ∷ full ∷ []) busy (held_other (has_fired k.state candidate.choice) refusal.Fired busy (λ same. let wrong : ⊥ = cc in wrong)) three in
-    let five = first_other claimed (full ∷ []) busy (mapped_other (λ (claim : Claim). refusal.Claimed claim.number) (claim_of_choice k candidate.choice) busy (λ claim same. let wrong : ⊥ = cc in wrong)) four in
-    let six = first_other full [] busy (held_other (is_full k) (refusal.Full k.given (length k.claims)) busy (λ same. let wrong : ⊥ = cc in wrong)) five in
+    let five = first_other claimed (full ∷ []) busy (mapped_other (λ (claim : Claim). refusal.Claimed claim.number) (claim_of_choice k.claims candidate.choice) busy (λ claim same. let wrong : ⊥ = cc in wrong)) four in
+    let six = first_other full [] busy (held_other (is_full k.given (length k.claims)) (refusal.Full k.given (length k.claims)) busy (λ same. let wrong : ⊥ = cc in wrong)) five in
     let wrong : ⊥ = cc in wrong
   where
     none_is_not : (o : Option ClaimRefusal) → o ≡ None → o ≡ Some (refusal.Busy busy) → ⊥
@@ -72,8 +72,8 @@ told_busy k candidate busy is =
     let gone = option_map refusal.Gone (gone_tag k.state.memory candidate.elements) in
     let unmatched = option_map refusal.Unmatched (failing_condition k.program k.state.memory candidate.choice) in
     let fired = only_if (has_fired k.state candidate.choice) refusal.Fired in
-    let claimed = option_map (λ (claim : Claim). refusal.Claimed claim.number) (claim_of_choice k candidate.choice) in
-    let full = only_if (is_full k) (refusal.Full k.given (length k.claims)) in
+    let claimed = option_map (λ (claim : Claim). refusal.Claimed claim.number) (claim_of_choice k.claims candidate.choice) in
+    let full = only_if (is_full k.given (length k.claims)) (refusal.Full k.given (length k.claims)) in
     inr (ap (λ (o : Option Busy). first_answer (λ x. x) (option_map refusal.Busy o ∷ over ∷ gone ∷ unmatched ∷ fired ∷ claimed ∷ full ∷ [])) is)
 
 -- what holds of each item of a list holds of all

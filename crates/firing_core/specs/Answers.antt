@@ -4,10 +4,10 @@ use Rattle.std.specs.Prelude.{◌≡◌, ℕ, List, [], ◌∷◌, Bool, false, 
 use Rattle.std.specs.Option.{option_map_or}
 use Rattle.rule_base.specs.declared.element.Element.{Element}
 use Rattle.rule_base.specs.declared.instantiation.Candidate.{Candidate}
-use Rattle.rule_base.specs.Chains.{only_if}
+use Rattle.rule_base.specs.Chains.{only_if, first_answer}
 use Rattle.rule_base.specs.State.{same_choice}
-use Rattle.interference.specs.Pins.{first_answer}
 use Rattle.standing_claims.specs.declared.claim.Claim.{Claim}
+use Rattle.standing_claims.specs.Standing.{claim_numbered}
 use Rattle.firing_core.specs.declared.claims.ClaimRefusal.{ClaimRefusal}
 use Rattle.firing_core.specs.declared.claims.ClaimRefusal.TheVariants as refusal
 use Rattle.firing_core.specs.declared.claims.CommitRefusal.{CommitRefusal}
@@ -15,9 +15,10 @@ use Rattle.firing_core.specs.declared.claims.CommitRefusal.TheVariants.{Ended, F
 use Rattle.firing_core.specs.declared.claims.Event.{Event}
 use Rattle.firing_core.specs.declared.claims.Event.TheVariants as event
 use Rattle.firing_core.specs.CoreState.{CoreState, ended}
-use Rattle.firing_core.specs.Refusals.{claim_refusal, same_element}
-use Rattle.firing_core.specs.Events.{apply, claim_numbered, without_claim}
+use Rattle.firing_core.specs.Refusals.{claim_refusal}
+use Rattle.firing_core.specs.Events.{apply, without_claim}
 use Rattle.firing_core.specs.Grants.{Granted}
+use Rattle.rule_base.specs.Memory.{same_element}
 
 -- a call that claims tells why it made no claim, or that memory is wanting
 abbrev pub TellsWhy : CoreState → Candidate → ClaimRefusal → Type 0
@@ -26,7 +27,7 @@ TellsWhy k candidate told = (told ≡ refusal.OutOfMemory) ⊎ (claim_refusal k 
 -- the claim of a grant: the one that stands under its number, if that has its choice
 abbrev pub claim_of : CoreState → Granted → Option Claim
 claim_of k grant =
-    option_and_then (λ (claim : Claim). only_if (same_choice claim.candidate.choice grant.candidate.choice) claim) (claim_numbered k grant.number)
+    option_and_then (λ (claim : Claim). only_if (same_choice claim.candidate.choice grant.candidate.choice) claim) (claim_numbered k.claims grant.number)
 
 -- whether a firing of the rule with this number, on these elements, is what the claim is for
 abbrev pub is_for : ℕ → List Element → Claim → Bool

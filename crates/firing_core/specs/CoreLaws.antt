@@ -3,7 +3,7 @@ use Rattle.std.specs.Prelude.{◌≡◌, ◌<◌, ◌^◌, List, [], true, None,
 use Rattle.rule_base.specs.declared.instantiation.Candidate.{Candidate}
 use Rattle.rule_base.specs.declared.instantiation.Choice.{Choice}
 use Rattle.rule_base.specs.declared.program.Program.{Program}
-use Rattle.rule_base.specs.Fits.{Fits}
+use Rattle.rule_base.specs.Fits.{Fits, is_fitting}
 use Rattle.rule_base.specs.Base.{IsLawfulBase}
 use Rattle.rule_base.specs.State.{base_of}
 use Rattle.firing_core.specs.declared.claims.Event.{Event}
@@ -13,7 +13,7 @@ use Rattle.firing_core.specs.Lawful.{IsLawful}
 use Rattle.firing_core.specs.Refusals.{busy_lock}
 use Rattle.firing_core.specs.FinishedRun.{GoesOn}
 use Rattle.firing_core.specs.FiredChoices.{AreFired}
-use Rattle.firing_core.specs.Events.{after_firing, fold, is_fitting, without_claims}
+use Rattle.firing_core.specs.Events.{after_firing, fold, without_claims}
 
 -- whatever happens to a lawful core, it stays lawful
 abbrev pub EventsKeepLawful : Type 0

@@ -3,9 +3,8 @@ use Rattle.std.specs.Prelude.{◌≡◌, ℕ, List, [], ◌∷◌, Option, drop,
 use Rattle.rule_base.specs.declared.program.Program.{Program}
 use Rattle.rule_base.specs.declared.base.Base.{Base}
 use Rattle.rule_base.specs.declared.entry.Entry.{Entry}
-use Rattle.rule_base.specs.Chains.{only_if}
+use Rattle.rule_base.specs.Chains.{only_if, first_answer}
 use Rattle.rule_base.specs.State.{State, count}
-use Rattle.interference.specs.Pins.{first_answer}
 use Rattle.standing_claims.specs.declared.claim.Claim.{Claim}
 use Rattle.firing_core.specs.declared.claims.FaultSeen.{FaultSeen}
 use Rattle.firing_core.specs.declared.claims.How.{How}

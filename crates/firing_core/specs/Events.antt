@@ -12,29 +12,15 @@ use Rattle.rule_base.specs.Chains.{only_if}
 use Rattle.rule_base.specs.Memory.{tags_of}
 use Rattle.rule_base.specs.Sound.{sizes_of}
 use Rattle.rule_base.specs.Effect.{Failure}
-use Rattle.rule_base.specs.State.{State, same_tags}
+use Rattle.rule_base.specs.State.{State}
 use Rattle.rule_base.specs.Step.{effect_of, step}
 use Rattle.standing_claims.specs.declared.claim.Claim.{Claim}
+use Rattle.standing_claims.specs.Standing.{claim_numbered}
 use Rattle.firing_core.specs.declared.claims.FaultSeen.{FaultSeen}
 use Rattle.firing_core.specs.declared.claims.Event.{Event}
 use Rattle.firing_core.specs.declared.claims.Event.TheVariants as event
 use Rattle.firing_core.specs.CoreState.{CoreState, ended}
 use Rattle.firing_core.specs.Refusals.{claim_refusal}
-
--- whether the element's class has a size, and the element as many values
-abbrev pub has_size : List ℕ → Element → Bool
-has_size sizes e = option_map_or (λ size. size == length e.values) (slice_get sizes e.class) false
-
--- whether a candidate's tags, elements and rule agree
-abbrev pub is_fitting : Program → Candidate → Bool
-is_fitting program candidate =
-    same_tags (tags_of candidate.elements) candidate.choice.tags
-    && option_map_or (λ (rule : Rule). rule.positives == length candidate.elements) (slice_get program.rules candidate.choice.rule) false
-    && list_all (has_size (sizes_of program.classes)) candidate.elements
-
--- the claim that stands under a number
-abbrev pub claim_numbered : CoreState → ℕ → Option Claim
-claim_numbered k number = find (λ (claim : Claim). claim.number == number) k.claims
 
 -- the core with one more claim, which has the next number
 abbrev pub with_claim : CoreState → Candidate → CoreState
@@ -70,7 +56,7 @@ after_fault k claim =
 
 -- what comes of the claim that stands under a number, where the core hasn't ended
 abbrev pub unless_ended : (CoreState → Claim → Option CoreState) → CoreState → ℕ → Option CoreState
-unless_ended after k number = option_and_then (after k) (option_and_then (λ (claim : Claim). only_if (is_none (ended k)) claim) (claim_numbered k number))
+unless_ended after k number = option_and_then (after k) (option_and_then (λ (claim : Claim). only_if (is_none (ended k)) claim) (claim_numbered k.claims number))
 
 -- the core after an event, where it is possible: a candidate that fits is claimed where nothing refuses it; a claim that stands is
 -- committed, or fails, where the core hasn't ended, as its effect says; and it may be dropped at any time
@@ -78,7 +64,7 @@ abbrev pub apply : CoreState → Event → Option CoreState
 apply k (event.Claimed candidate) = only_if (is_fitting k.program candidate && is_none (claim_refusal k candidate)) (with_claim k candidate)
 apply k (event.Committed number) = unless_ended after_commit k number
 apply k (event.Faulted number) = unless_ended after_fault k number
-apply k (event.Dropped number) = only_if (is_some (claim_numbered k number)) (without_claim k number)
+apply k (event.Dropped number) = only_if (is_some (claim_numbered k.claims number)) (without_claim k number)
 
 -- the core after events in order, where each is possible
 abbrev pub fold : CoreState → List Event → Option CoreState

@@ -5,9 +5,9 @@ use Rattle.rule_base.specs.declared.value.Value.{Value}
 use Rattle.rule_base.specs.declared.element.Element.{Element}
 use Rattle.working_memory.specs.declared.groups.Key.{Key}
 use Rattle.working_memory.specs.Groups.{Groups, group, same_key}
-use Rattle.working_memory.specs.Memory.{has_place}
-use Rattle.firing_core.specs.PinnedKeys.{has_attribute, is_grouped}
+use Rattle.firing_core.specs.PinnedKeys.{is_grouped}
 use Rattle.firing_core.specs.Store.{Stored, came, living}
+use Rattle.rule_base.specs.Numbers.{has_number}
 
 -- places of a store in groups, how many of its places were taken in, and for each class the attributes by which its elements are grouped
 pub record Grouping : Type 0 where
@@ -25,12 +25,12 @@ has_key key e = option_map_or (λ (k : Key). same_key k key) (key_at e key.attri
 
 -- a place is in the group of each key that the element has by one of these attributes
 abbrev pub IsInGroups : Groups → List ℕ → Element → ℕ → Type 0
-IsInGroups groups attributes e place = (key : Key) → has_key key e ≡ true → has_attribute attributes key.attribute ≡ true → has_place (group groups key) place ≡ true
+IsInGroups groups attributes e place = (key : Key) → has_key key e ≡ true → has_number attributes key.attribute ≡ true → has_number (group groups key) place ≡ true
 
 -- the element that lives at a place, if one does, has the place in the group of each key that it has and that is grouped
 abbrev pub IsInItsGroups : Groups → List (List ℕ) → Stored → ℕ → Type 0
 IsInItsGroups groups attributes stored place =
-    (key : Key) (e : Element) → living stored place ≡ e ∷ [] → has_key key e ≡ true → is_grouped attributes key.class key.attribute ≡ true → has_place (group groups key) place ≡ true
+    (key : Key) (e : Element) → living stored place ≡ e ∷ [] → has_key key e ≡ true → is_grouped attributes key.class key.attribute ≡ true → has_number (group groups key) place ≡ true
 
 -- of the places of the store so many were taken in, and each of these is in its groups; what else is there does no harm
 pub record IsGroupingOf (g : Grouping) (stored : Stored) : Type 0 where
@@ -44,4 +44,4 @@ pub record IsWholeGroupingOf (g : Grouping) (stored : Stored) : Type 0 where
 
 -- each place that was in a group is in it later
 abbrev pub HasGrown : Groups → Groups → Type 0
-HasGrown old new = (key : Key) (place : ℕ) → has_place (group old key) place ≡ true → has_place (group new key) place ≡ true
+HasGrown old new = (key : Key) (place : ℕ) → has_number (group old key) place ≡ true → has_number (group new key) place ≡ true

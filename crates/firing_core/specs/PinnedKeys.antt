@@ -8,13 +8,10 @@ use Rattle.rule_base.specs.declared.condition.Test.TheVariants.{Bind, Cmp, OneOf
 use Rattle.rule_base.specs.declared.program.Rule.{Rule}
 use Rattle.rule_base.specs.Acceptance.{compared_with}
 use Rattle.rule_base.specs.Bindings.{Bindings}
-use Rattle.rule_base.specs.Chains.{only_if}
-use Rattle.interference.specs.Pins.{first_answer, is_equality}
+use Rattle.rule_base.specs.Numbers.{has_number}
+use Rattle.rule_base.specs.Chains.{only_if, first_answer}
 use Rattle.working_memory.specs.declared.groups.Key.{Key}
-
--- whether an attribute is among these
-abbrev pub has_attribute : List ℕ → ℕ → Bool
-has_attribute attributes attr = list_any (λ a. a == attr) attributes
+use Rattle.rule_base.specs.Predicate.{is_equality}
 
 -- whether a test compares an attribute by `=`
 abbrev pub compares : ℕ → Test → Bool
@@ -35,11 +32,11 @@ is_pinned rules class attr = list_any (rule_pins class attr) rules
 
 -- attributes are those of a list and, further, those that pass a test
 abbrev pub AreWith : (ℕ → Bool) → List ℕ → List ℕ → Type 0
-AreWith more old new = (attr : ℕ) → has_attribute new attr ≡ (has_attribute old attr || more attr)
+AreWith more old new = (attr : ℕ) → has_number new attr ≡ (has_number old attr || more attr)
 
 -- whether elements of a class are grouped by an attribute, where each class has these attributes
 abbrev pub is_grouped : List (List ℕ) → ℕ → ℕ → Bool
-is_grouped attributes class attr = has_attribute (unwrap_or (slice_get attributes class) []) attr
+is_grouped attributes class attr = has_number (unwrap_or (slice_get attributes class) []) attr
 
 -- each of so many classes has the attributes that are pinned in the rules
 pub record AreOfRules (rules : List Rule) (classes : ℕ) (attributes : List (List ℕ)) : Type 0 where

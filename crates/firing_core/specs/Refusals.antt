@@ -10,15 +10,15 @@ use Rattle.rule_base.specs.declared.instantiation.Choice.{Choice}
 use Rattle.rule_base.specs.declared.instantiation.Candidate.{Candidate}
 use Rattle.rule_base.specs.declared.program.Rule.{Rule}
 use Rattle.rule_base.specs.declared.program.Program.{Program}
-use Rattle.rule_base.specs.Chains.{only_if}
-use Rattle.rule_base.specs.Memory.{Memory}
+use Rattle.rule_base.specs.Chains.{only_if, first_answer}
+use Rattle.rule_base.specs.Memory.{same_element, Memory}
 use Rattle.rule_base.specs.Match.{match_of}
 use Rattle.rule_base.specs.Value.{same_value}
 use Rattle.rule_base.specs.State.{has_fired, same_choice}
 use Rattle.interference.specs.Footprint.{footprint}
-use Rattle.interference.specs.Pins.{first_answer}
 use Rattle.interference.specs.Words.{first_busy, word_of}
 use Rattle.standing_claims.specs.declared.claim.Claim.{Claim}
+use Rattle.standing_claims.specs.Standing.{claim_of_choice, is_full}
 use Rattle.firing_core.specs.declared.claims.ClaimRefusal.{ClaimRefusal}
 use Rattle.firing_core.specs.declared.claims.ClaimRefusal.TheVariants as refusal
 use Rattle.firing_core.specs.CoreState.{CoreState, ended}
@@ -31,10 +31,6 @@ claimed_footprints k = map (λ (claim : Claim). footprint k.program claim.candid
 abbrev pub busy_lock : CoreState → Candidate → Option Busy
 busy_lock k candidate = first_busy (word_of (claimed_footprints k)) (footprint k.program candidate)
 
--- whether two elements are the same: tag, class and values
-abbrev pub same_element : Element → Element → Bool
-same_element e other = (e.tag == other.tag) && (e.class == other.class) && pointwise same_value e.values other.values
-
 -- the tag of the first of these elements that isn't in the memory, or is another there
 abbrev pub gone_tag : Memory → List Element → Option ℕ
 gone_tag memory elements = option_map (λ (e : Element). e.tag) (find (λ (e : Element). not (list_any (same_element e) memory)) elements)
@@ -43,19 +39,11 @@ gone_tag memory elements = option_map (λ (e : Element). e.tag) (find (λ (e : E
 abbrev pub failing_condition : Program → Memory → Choice → Option ℕ
 failing_condition program memory c = option_and_then (λ (rule : Rule). result_err (match_of rule c.tags memory)) (slice_get program.rules c.rule)
 
--- the first claim that stands of this choice
-abbrev pub claim_of_choice : CoreState → Choice → Option Claim
-claim_of_choice k c = find (λ (claim : Claim). same_choice claim.candidate.choice c) k.claims
-
--- whether no further claim has room: there is no further number, or as many stand as a word can count
-abbrev pub is_full : CoreState → Bool
-is_full k = (k.given == 2 ^ 64 - 1) || (length k.claims == 4095)
-
 -- why no further claim of the choice may stand: one stands already, or none has room
 abbrev pub crowdings : CoreState → Choice → List (Option ClaimRefusal)
 crowdings k c =
-    option_map (λ (claim : Claim). refusal.Claimed claim.number) (claim_of_choice k c)
-    ∷ only_if (is_full k) (refusal.Full k.given (length k.claims))
+    option_map (λ (claim : Claim). refusal.Claimed claim.number) (claim_of_choice k.claims c)
+    ∷ only_if (is_full k.given (length k.claims)) (refusal.Full k.given (length k.claims))
     ∷ []
 
 abbrev pub crowding : CoreState → Choice → Option ClaimRefusal

@@ -8,7 +8,8 @@ use Rattle.rule_base.specs.Memory.{Memory, Rises, element_at, tags_of}
 use Rattle.rule_base.specs.Opening.{AreConsecutive}
 use Rattle.commit_journal.specs.declared.room.Room.{Room}
 use Rattle.commit_journal.specs.Entries.{born_in}
-use Rattle.working_memory.specs.Memory.{Places, has_place}
+use Rattle.working_memory.specs.Memory.{Places}
+use Rattle.rule_base.specs.Numbers.{has_number}
 
 -- every element that came: those of the base, and behind them those that were born in the entries
 abbrev pub came : Base → List Entry → List Element
@@ -51,7 +52,7 @@ pub record IsSameBesideMemory (old new : Stored) : Type 0 where
   pub entries : new.entries ≡ old.entries
   pub next : new.next ≡ old.next
   pub room : new.room ≡ old.room
-  pub fewer : (place : ℕ) → has_place new.places place ≡ true → has_place old.places place ≡ true
+  pub fewer : (place : ℕ) → has_number new.places place ≡ true → has_number old.places place ≡ true
 
 -- a store is another's later on: its base is the same, further entries stand behind the others, and of the places to which an element had come
 -- no more are in working memory
@@ -59,11 +60,11 @@ pub record IsLater (old new : Stored) : Type 0 where
   pub base : new.base ≡ old.base
   pub more : List Entry
   pub entries : new.entries ≡ old.entries ++ more
-  pub fewer : (place : ℕ) → place < length (came old.base old.entries) → has_place new.places place ≡ true → has_place old.places place ≡ true
+  pub fewer : (place : ℕ) → place < length (came old.base old.entries) → has_number new.places place ≡ true → has_number old.places place ≡ true
 
 -- the elements at these places that are in working memory
 abbrev pub living_at : Stored → List ℕ → Memory
-living_at stored places = at_places (came stored.base stored.entries) (filter (has_place stored.places) places)
+living_at stored places = at_places (came stored.base stored.entries) (filter (has_number stored.places) places)
 
 -- the element at a place, if it is in working memory
 abbrev pub living : Stored → ℕ → Memory

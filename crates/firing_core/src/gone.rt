@@ -2,9 +2,9 @@
 
 ghost use Rattle.std.specs.Prelude.{◌≡◌};
 ghost use Rattle.std.specs.List.{list_any};
-ghost use Rattle.rule_base.specs.Memory.{Rises, tags_of};
+ghost use Rattle.rule_base.specs.Memory.{Rises, tags_of, same_element};
 ghost use Rattle.rule_base.specs.Views.{element_in};
-ghost use Rattle.firing_core.specs.Refusals.{gone_tag, same_element};
+ghost use Rattle.firing_core.specs.Refusals.{gone_tag};
 ghost use Rattle.firing_core.specs.Store.{memory_in};
 
 use crate::store::Store;

@@ -5,10 +5,10 @@ ghost use Rattle.std.specs.Prelude.{◌≡◌, ◌∷◌, ◌≤◌, [], IfOk, O
 ghost use Rattle.rule_base.specs.Views.{element_in};
 ghost use Rattle.working_memory.specs.declared.groups.Key.{Key};
 ghost use Rattle.working_memory.specs.Groups.{group};
-ghost use Rattle.working_memory.specs.Memory.{has_place};
 ghost use Rattle.firing_core.specs.Grouped.{HasGrown, IsGroupingOf, IsInGroups, IsInItsGroups, IsWholeGroupingOf, has_key, key_at};
 ghost use Rattle.firing_core.specs.PinnedKeys.{AreOfRules, pinned_key};
 ghost use Rattle.firing_core.specs.Store.{Stored, came};
+ghost use Rattle.rule_base.specs.Numbers.{has_number};
 
 use crate::pinned_keys::{pinned_attributes, pinned_key};
 use crate::store::Store;
@@ -97,7 +97,7 @@ impl Grouped {
         ensures grouping { IsWholeGroupingOf self.new store.now }
         ensures attributes { self.new.attributes ≡ self.old.attributes }
         ensures cleaned { group self.new.groups key
-            ≡ filter (has_place store.now.places) (group self.old.groups key) }
+            ≡ filter (has_number store.now.places) (group self.old.groups key) }
     {
         self.groups.clean(key, store.memory());
     }

@@ -4,7 +4,8 @@
 ghost use Rattle.std.specs.Prelude.{◌≡◌, ◌≤◌, [], IfOk, OnOk};
 ghost use Rattle.std.specs.List.{list_any};
 ghost use Rattle.rule_base.specs.Acceptance.{compared_with};
-ghost use Rattle.firing_core.specs.PinnedKeys.{AreOfRules, AreWith, compares, has_attribute, is_grouped, is_pinned, key_by, pinned_key, pins_of, rule_pins};
+ghost use Rattle.firing_core.specs.PinnedKeys.{AreOfRules, AreWith, compares, is_grouped, is_pinned, key_by, pinned_key, pins_of, rule_pins};
+ghost use Rattle.rule_base.specs.Numbers.{has_number};
 
 use element_tests::Binds;
 use ops_text::{OutOfMemory, Sequence};
@@ -71,14 +72,14 @@ fn add_compared_by(attributes: &mut Sequence<u32>, test: &Test) -> Result<(), Ou
     let Test::Cmp { attr, pred, arg: _ } = test else {
         return Ok(());
     };
-    if *pred == Pred::Eq && !has_attribute(attributes.as_slice(), *attr) {
+    if *pred == Pred::Eq && !has_number(attributes.as_slice(), *attr) {
         attributes.push(*attr)?;
     }
     Ok(())
 }
 
-fn has_attribute(attributes: &[u32], attr: u32) -> bool
-    ensures { result ≡ has_attribute attributes.now attr }
+fn has_number(attributes: &[u32], attr: u32) -> bool
+    ensures { result ≡ has_number attributes.now attr }
 {
     attributes.iter().any(|other| *other == attr)
 }
@@ -122,7 +123,7 @@ fn is_grouped(attributes: &[Sequence<u32>], class: u32, attr: u32) -> bool
     ensures { result ≡ is_grouped attributes.now class attr }
 {
     match attributes.get(class as usize) {
-        Some(of_class) => has_attribute(of_class.as_slice(), attr),
+        Some(of_class) => has_number(of_class.as_slice(), attr),
         None => false,
     }
 }

@@ -3,7 +3,7 @@
 ghost use lib.Pointwise.{pointwise};
 ghost use Rattle.std.specs.Prelude.{◌≡◌};
 ghost use Rattle.rule_base.specs.Views.{element_in};
-ghost use Rattle.firing_core.specs.Refusals.{same_element};
+ghost use Rattle.rule_base.specs.Memory.{same_element};
 
 use rule_base::{ElementView, Elements};
 

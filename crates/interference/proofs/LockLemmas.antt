@@ -145,7 +145,7 @@ positives : (conds : List Cond) → begins_positive conds ≡ true → 0 < lengt
 positives [] begins = absurd (let wrong : ⊥ = cc in wrong)
 positives (c ∷ conds) begins = positive_by c conds c.negated refl begins
 
-length-tags : (elements : List Element) → length (tags_of elements) ≡ length elements
+pub length-tags : (elements : List Element) → length (tags_of elements) ≡ length elements
 length-tags [] = refl
 length-tags (e ∷ elements) = omega (arith, length-tags elements)
 

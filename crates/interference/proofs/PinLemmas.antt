@@ -12,16 +12,16 @@ use Rattle.rule_base.specs.declared.condition.Pred.TheVariants.{Eq, Ne, Lt, Le, 
 use Rattle.rule_base.specs.declared.condition.Test.{Test}
 use Rattle.rule_base.specs.declared.condition.Test.TheVariants.{Bind, Cmp, OneOf}
 use Rattle.rule_base.specs.declared.condition.Cond.{Cond}
-use Rattle.rule_base.specs.Chains.{only_if}
+use Rattle.rule_base.specs.Chains.{only_if, first_answer}
 use Rattle.rule_base.specs.Value.{same_value}
-use Rattle.rule_base.specs.Predicate.{holds}
+use Rattle.rule_base.specs.Predicate.{holds, is_equality}
 use Rattle.rule_base.specs.Bindings.{Bindings, binding_of, bound}
 use Rattle.rule_base.specs.Acceptance.{accepts, after_test, after_tests, compared_with}
 use Rattle.rule_base.specs.Sound.{bound_by_test}
 use Rattle.std.specs.List.{flat_map}
 use Rattle.rule_base.proofs.AmongLemmas.{Among}
 use Rattle.interference.specs.Given.{given}
-use Rattle.interference.specs.Pins.{first_answer, first_pin, is_bound, is_equality, is_told, pin}
+use Rattle.interference.specs.Pins.{first_pin, is_bound, is_told, pin}
 use Rattle.interference.specs.Regions.{pinned_value, told_value}
 use Rattle.interference.proofs.OptionLemmas.{Gave-some, GaveMapped-some, both_hold}
 use Rattle.interference.proofs.BindingLemmas.{Agrees, IsAccepted-accepts, IsCompared, IsCompared-passed, bound_or_before, one_of_same}

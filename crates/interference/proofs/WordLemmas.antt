@@ -114,7 +114,7 @@ and_right : (a b : Bool) → (a && b) ≡ true → b ≡ true
 and_right true b both = both
 and_right false b both = absurd (let wrong : ⊥ = cc in wrong)
 
-and_both : (a b : Bool) → a ≡ true → b ≡ true → (a && b) ≡ true
+pub and_both : (a b : Bool) → a ≡ true → b ≡ true → (a && b) ≡ true
 and_both true b first second = second
 and_both false b first second = first
 
@@ -254,7 +254,7 @@ search_by_each : {X : Type 0} (p : X → Bool) (xs : List X) → AllByRecursion 
 search_by_each p [] each = refl
 search_by_each p (x ∷ xs) each = search_by p x xs (p x) each.0 (search_by_each p xs each.1)
 
-mapped_none : {A B : Type 0} (f : A → B) (o : Option A) → option_map f o ≡ None → o ≡ None
+pub mapped_none : {A B : Type 0} (f : A → B) (o : Option A) → option_map f o ≡ None → o ≡ None
 mapped_none f None none = refl
 mapped_none f (Some a) none = absurd (let wrong : ⊥ = cc in wrong)
 

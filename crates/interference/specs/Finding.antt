@@ -10,13 +10,12 @@ use Rattle.rule_base.specs.declared.condition.Cond.{Cond}
 use Rattle.rule_base.specs.declared.action.Action.{Action}
 use Rattle.rule_base.specs.declared.action.Action.TheVariants as action
 use Rattle.rule_base.specs.declared.program.Rule.{Rule}
-use Rattle.rule_base.specs.Chains.{only_if}
+use Rattle.rule_base.specs.Chains.{only_if, first_answer}
 use Rattle.interference.specs.Locks.{every_region, region, stripe}
 use Rattle.std.specs.Option.{option_map_or}
 use Rattle.std.specs.List.{list_any}
 use Rattle.interference.specs.Given.{positive}
 use Rattle.interference.specs.MayInterfere.{class_at, classes_of}
-use Rattle.interference.specs.Pins.{first_answer}
 use Rattle.interference.specs.Regions.{watched_regions}
 use Rattle.interference.specs.Footprint.{in_mode, with_demand}
 

@@ -1,6 +1,6 @@
 -- Laws of footprints: what they ask and in which order, and what it means that two rules may not interfere.
-use Rattle.std.specs.Prelude.{◌≡◌, ◌<◌, ℕ, List, Bool, true, false, length, map, ◌==◌}
-use Rattle.std.specs.List.{AllByRecursion, list_any}
+use Rattle.std.specs.Prelude.{◌≡◌, ◌<◌, ℕ, List, true, false, length, map}
+use Rattle.std.specs.List.{AllByRecursion}
 use Rattle.rule_base.specs.declared.lock.Mode.{Mode}
 use Rattle.rule_base.specs.declared.instantiation.Choice.{Choice}
 use Rattle.rule_base.specs.declared.instantiation.Candidate.{Candidate}
@@ -14,6 +14,7 @@ use Rattle.interference.specs.Locks.{lock_count, stripe}
 use Rattle.interference.specs.Footprint.{footprint, gathered}
 use Rattle.interference.specs.PhantomLaw.{ClashIn}
 use Rattle.interference.specs.MayInterfere.{may_interfere}
+use Rattle.rule_base.specs.Numbers.{has_number}
 
 -- gathered demands ask the same of each lock as before
 abbrev pub GatheredAskTheSame : Type 0
@@ -31,16 +32,12 @@ FootprintsAreInRange = (program : Program) (candidate : Candidate) → IsSound p
 abbrev pub FootprintsAreNotEmpty : Type 0
 FootprintsAreNotEmpty = (program : Program) (candidate : Candidate) → IsSound program → Fits program candidate → 0 < length (footprint program candidate)
 
--- whether a tag is among these
-abbrev pub is_tag_of : List ℕ → ℕ → Bool
-is_tag_of tags tag = list_any (λ t. t == tag) tags
-
 -- two different tags, one of each list, share the stripe
 pub record ShareStripe (lock : ℕ) (one other : List ℕ) : Type 0 where
   pub tag : ℕ
   pub beside : ℕ
-  pub of_one : is_tag_of one tag ≡ true
-  pub of_other : is_tag_of other beside ≡ true
+  pub of_one : has_number one tag ≡ true
+  pub of_other : has_number other beside ≡ true
   pub differ : tag ≡ beside → ⊥
   pub here : stripe tag ≡ lock
   pub here_too : stripe beside ≡ lock

@@ -1,22 +1,15 @@
 -- Pins: the value that an attribute must have if a negated condition element is to accept an element.
-use Rattle.std.specs.Prelude.{ℕ, List, [], ◌∷◌, Bool, true, false, ◌&&◌, Option, None, is_some, ◌==◌}
+use Rattle.std.specs.Prelude.{ℕ, List, Bool, true, ◌&&◌, Option, None, is_some, ◌==◌}
 use Rattle.std.specs.List.{list_any}
-use Rattle.std.specs.Option.{option_or}
 use Rattle.rule_base.specs.declared.condition.Arg.{Arg}
 use Rattle.rule_base.specs.declared.condition.Arg.TheVariants.{Con, Var}
-use Rattle.rule_base.specs.declared.condition.Pred.{Pred}
-use Rattle.rule_base.specs.declared.condition.Pred.TheVariants.{Eq, Ne, Lt, Le, Gt, Ge, Same}
 use Rattle.rule_base.specs.declared.condition.Test.{Test}
 use Rattle.rule_base.specs.declared.condition.Test.TheVariants.{Bind, Cmp, OneOf}
 use Rattle.rule_base.specs.declared.condition.Cond.{Cond}
-use Rattle.rule_base.specs.Chains.{only_if}
+use Rattle.rule_base.specs.Chains.{first_answer, only_if}
 use Rattle.rule_base.specs.Sound.{bound_variables}
 use Rattle.interference.specs.Given.{positive}
-
--- the first answer that there is, going through a list
-abbrev pub first_answer : {A B : Type 0} → (A → Option B) → List A → Option B
-first_answer answer [] = None
-first_answer answer (x ∷ xs) = option_or (answer x) (first_answer answer xs)
+use Rattle.rule_base.specs.Predicate.{is_equality}
 
 -- whether a positive condition element binds the variable
 abbrev pub is_bound : List Cond → ℕ → Bool
@@ -27,16 +20,6 @@ is_bound conds var = list_any (λ n. n == var) (bound_variables (positive conds)
 abbrev pub is_told : List Cond → Arg → Bool
 is_told conds (Con value) = true
 is_told conds (Var var) = is_bound conds var
-
--- whether a predicate asks for the same value
-abbrev pub is_equality : Pred → Bool
-is_equality Eq = true
-is_equality Ne = false
-is_equality Lt = false
-is_equality Le = false
-is_equality Gt = false
-is_equality Ge = false
-is_equality Same = false
 
 -- what a test pins the attribute to, if it does
 abbrev pub pin : List Cond → ℕ → Test → Option Arg

@@ -1,5 +1,5 @@
 -- What the last firing tells, of the state that a run reaches: whether a choice is fired still.
-use Rattle.std.proofs.Common.{◌≡◌, ℕ, ◌+◌, ◌-◌, ◌<◌, ◌≤◌, List, [], ◌∷◌, ◌++◌, Bool, true, false, cond, ◌||◌, Option, Some, None, drop, length, map, refl, sym, ◌∙◌, ap, subst, arith, append-nil, length-append, true≢false}
+use Rattle.std.proofs.Common.{◌≡◌, ℕ, ◌+◌, ◌-◌, ◌<◌, ◌≤◌, List, [], ◌∷◌, ◌++◌, Bool, true, false, cond, ◌||◌, Option, Some, None, drop, length, refl, sym, ◌∙◌, ap, subst, arith, append-nil, length-append, true≢false}
 use Rattle.std.specs.List.{filter_map, list_any}
 use Rattle.std.specs.Option.{option_map_or}
 use Rattle.std.proofs.lemmas.Grind.{flat_map-append}
@@ -9,7 +9,6 @@ use Rattle.std.proofs.Math.Seq.{drop-append_seam}
 use Rattle.rule_base.specs.declared.base.Base.{Base}
 use Rattle.rule_base.specs.declared.base.Refraction.{Refraction}
 use Rattle.rule_base.specs.declared.base.Refraction.TheVariants.{Once, Renewed}
-use Rattle.rule_base.specs.declared.change.Tagged.TheVariants.{Gone, Born}
 use Rattle.rule_base.specs.declared.element.Element.{Element}
 use Rattle.rule_base.specs.declared.entry.Entry.{Entry}
 use Rattle.rule_base.specs.declared.instantiation.Choice.{Choice}
@@ -38,17 +37,12 @@ use Rattle.refraction_index.proofs.BesideLemmas.{blocks_none-nothing}
 use Rattle.refraction_index.proofs.FiringLemmas.{fired_at-push}
 use Rattle.refraction_index.proofs.MemberLemmas.{AllAmong-itself, Each-any}
 use Rattle.refraction_index.proofs.SinceLemmas.{IsCommit, IsSince, IsSince-commit, Keeps-itself, has_fired-since}
+use Rattle.commit_journal.proofs.EntryLemmas.{born_by-entry}
 
 -- what doesn't hold, where it would make something hold that doesn't
 not_so : (a b : Bool) → b ≡ false → (a ≡ true → b ≡ true) → a ≡ false
 not_so false b is there = refl
 not_so true b is there = absurd (true≢false (sym (there refl) ∙ is))
-
--- the elements that the entry of a commit tells
-born_by-entry : (gone : List ℕ) (new : List Element) → filter_map born_by (map Gone gone ++ map Born new) ≡ new
-born_by-entry [] [] = refl
-born_by-entry [] (e ∷ new) = ap (λ rest. e ∷ rest) (born_by-entry [] new)
-born_by-entry (tag ∷ gone) new = born_by-entry gone new
 
 pub born_in-entry : (next : ℕ) (d : Choice) (done : Effect) → born_in (entry_of next d done ∷ []) ≡ born next done.changes
 born_in-entry next d done = append-nil (filter_map born_by (entry_of next d done).changes) ∙ born_by-entry (removed_tags done.changes) (born next done.changes)

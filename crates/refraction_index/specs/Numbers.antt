@@ -1,9 +1,9 @@
 -- Numbers of choices, by their words.
-use Rattle.std.specs.Prelude.{◌≡◌, ◌<◌, ℕ, List, ◌∷◌, length, map, Bool, Option, None, Vec}
+use Rattle.std.specs.Prelude.{◌≡◌, ◌<◌, ℕ, List, ◌∷◌, length, map, Option, None, Vec}
 use Rattle.std.specs.Map.{lookup}
 use Rattle.std.specs.declared.alloc.Global.{Global}
-use Rattle.std.specs.Str.{bytes_eq}
 use Rattle.rule_base.specs.declared.instantiation.Choice.{Choice}
+use Rattle.rule_base.specs.Numbers.{same_numbers}
 
 -- a rule with tags, as a choice
 abbrev pub choice_with : ℕ → List ℕ → Choice
@@ -13,17 +13,13 @@ choice_with rule tags = record { rule = rule; tags = tags }
 abbrev pub words_of : Choice → List ℕ
 words_of choice = choice.rule ∷ choice.tags
 
--- whether two choices' words are the same
-abbrev pub same_words : List ℕ → List ℕ → Bool
-same_words = bytes_eq
-
 -- a number for each of some words
 abbrev pub Numbers : Type 0
 Numbers = List (List ℕ × ℕ)
 
 -- the choice's number, if it has one
 abbrev pub number_of : Numbers → Choice → Option ℕ
-number_of numbers choice = lookup (same_words (words_of choice)) numbers
+number_of numbers choice = lookup (same_numbers (words_of choice)) numbers
 
 -- the entries of a map, with each vector as the list of its items
 abbrev pub by_items : List (Vec ℕ Global × ℕ) → Numbers
@@ -31,4 +27,4 @@ by_items entries = map (λ e. (e.0.items, e.1)) entries
 
 -- words that don't fit in so much room have no number
 abbrev pub AreWithin : ℕ → Numbers → Type 0
-AreWithin room numbers = (words : List ℕ) → room < length words → lookup (same_words words) numbers ≡ None
+AreWithin room numbers = (words : List ℕ) → room < length words → lookup (same_numbers words) numbers ≡ None

@@ -4,8 +4,9 @@ use Rattle.std.specs.List.{AllByRecursion, IsDistinct, filter, list_any}
 use Rattle.std.proofs.lemmas.Bool.Decides.{Decides-eqb}
 use Rattle.std.proofs.lemmas.Slice.Eq.{bytes_eq-Decides}
 use Rattle.rule_base.specs.declared.instantiation.Choice.{Choice}
-use Rattle.rule_base.specs.State.{same_choice, same_tags}
+use Rattle.rule_base.specs.State.{same_choice}
 use Rattle.rule_base.proofs.EachLemmas.{Each-append, Each-filter}
+use Rattle.rule_base.specs.Numbers.{same_numbers}
 
 -- a choice is the same as itself
 pub same_choice-itself : (c : Choice) → same_choice c c ≡ true
@@ -23,7 +24,7 @@ same_parts c d rule tags = λ i. record { rule = rule i; tags = tags i }
 -- and choices that are the same are equal
 pub same_choice-equal : (c d : Choice) → same_choice c d ≡ true → c ≡ d
 same_choice-equal c d same =
-    let both = both_hold (c.rule == d.rule) (same_tags c.tags d.tags) same in
+    let both = both_hold (c.rule == d.rule) (same_numbers c.tags d.tags) same in
     same_parts c d ((Decides-eqb c.rule d.rule).0 both.0) ((bytes_eq-Decides c.tags d.tags).0 both.1)
 
 -- a choice among others is among those that pass a test which it passes

@@ -1,5 +1,6 @@
 -- values, working memory and bindings
 pub mod Chains
+pub mod Numbers
 pub mod Value
 pub mod Cases
 pub mod Predicate

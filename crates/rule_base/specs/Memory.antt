@@ -1,7 +1,9 @@
 -- Working memory: a list of elements with rising time tags.
-use Rattle.std.specs.Prelude.{◌≡◌, ℕ, ◌<◌, List, [], ◌∷◌, length, map, Option, Some, slice_get, find, ◌==◌}
+use Rattle.std.specs.Prelude.{◌≡◌, ℕ, ◌<◌, Bool, ◌&&◌, List, [], ◌∷◌, length, map, Option, Some, slice_get, find, ◌==◌}
 use Rattle.std.specs.List.{AllByRecursion, filter_map, sum_by}
+use lib.Pointwise.{pointwise}
 use Rattle.rule_base.specs.declared.element.Element.{Element}
+use Rattle.rule_base.specs.Value.{same_value}
 
 abbrev pub Memory : Type 0
 Memory = List Element
@@ -17,6 +19,10 @@ element_at memory tag = find (λ (e : Element). e.tag == tag) memory
 -- the elements with these tags, in the tags' order; a tag that is not there is passed over
 abbrev pub elements_at : Memory → List ℕ → List Element
 elements_at memory tags = filter_map (element_at memory) tags
+
+-- whether two elements are the same: tag, class and values
+abbrev pub same_element : Element → Element → Bool
+same_element e other = (e.tag == other.tag) && (e.class == other.class) && pointwise same_value e.values other.values
 
 -- how many values the elements have, together
 abbrev pub value_count : Memory → ℕ

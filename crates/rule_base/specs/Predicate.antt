@@ -34,3 +34,13 @@ holds Le value other = is_at_most value other
 holds Gt value other = is_less other value
 holds Ge value other = is_at_most other value
 holds Same value other = same_type value other
+
+-- whether a predicate asks for the same value
+abbrev pub is_equality : Pred → Bool
+is_equality Eq = true
+is_equality Ne = false
+is_equality Lt = false
+is_equality Le = false
+is_equality Gt = false
+is_equality Ge = false
+is_equality Same = false

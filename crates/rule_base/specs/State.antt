@@ -1,13 +1,13 @@
 -- The state of the recognise-act machine, and where it begins.
 use Rattle.std.specs.Prelude.{◌≡◌, ℕ, ◌+◌, ◌<◌, List, [], Bool, false, length, map, ◌&&◌, ◌==◌}
 use Rattle.std.specs.List.{AllByRecursion, list_any}
-use Rattle.std.specs.Str.{bytes_eq}
 use Rattle.rule_base.specs.declared.element.Element.{Element}
 use Rattle.rule_base.specs.declared.instantiation.Choice.{Choice}
 use Rattle.rule_base.specs.declared.entry.Entry.{Entry}
 use Rattle.rule_base.specs.declared.base.Refraction.{Refraction}
 use Rattle.rule_base.specs.declared.base.Base.{Base}
 use Rattle.rule_base.specs.Memory.{Memory, IsMemory}
+use Rattle.rule_base.specs.Numbers.{same_numbers}
 
 -- the working memory, the next time tag, the fired choices, which are those that stay fired, the journal's entries in
 -- order, whether a firing has halted, and the refraction
@@ -51,13 +51,9 @@ opening elements refraction = start (opening_base elements refraction)
 abbrev pub base_of : State → Base
 base_of s = record { elements = s.memory; next = s.next; fired = s.fired; refraction = s.refraction }
 
--- whether two lists of tags are the same, number by number
-abbrev pub same_tags : List ℕ → List ℕ → Bool
-same_tags = bytes_eq
-
 -- whether two choices are the same rule with the same tags
 abbrev pub same_choice : Choice → Choice → Bool
-same_choice c d = (c.rule == d.rule) && same_tags c.tags d.tags
+same_choice c d = (c.rule == d.rule) && same_numbers c.tags d.tags
 
 -- refraction: whether the choice, an instantiation told by its rule and its tags, is among the fired ones
 abbrev pub has_fired : State → Choice → Bool

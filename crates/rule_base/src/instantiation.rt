@@ -5,8 +5,9 @@ ghost use Rattle.std.specs.List.{AllByRecursion};
 ghost use Rattle.rule_base.specs.Fits.{Fits};
 ghost use Rattle.rule_base.specs.Memory.{HasSize, tags_of};
 ghost use Rattle.rule_base.specs.Sound.{sizes_of};
-ghost use Rattle.rule_base.specs.State.{same_choice, same_tags};
+ghost use Rattle.rule_base.specs.State.{same_choice};
 ghost use Rattle.rule_base.specs.Views.{element_in};
+ghost use Rattle.rule_base.specs.Numbers.{same_numbers};
 
 use crate::{Class, ElementView, Elements, Program};
 use ops_text::{Duplicate, OutOfMemory, Sequence};
@@ -80,7 +81,7 @@ impl Candidate {
 
 /// Whether these are the elements' tags, in order.
 fn have_tags(elements: &Elements, tags: &[u64]) -> bool
-    ensures { result ≡ same_tags (tags_of elements.now) tags.now }
+    ensures { result ≡ same_numbers (tags_of elements.now) tags.now }
 {
     if elements.len() != tags.len() {
         return false;

@@ -129,13 +129,13 @@ not_full given count false false is none = grind (arith, nat_tests)
 not_full given count false true is none = absurd (let wrong : ⊥ = cc in wrong)
 not_full given count true b is none = absurd (let wrong : ⊥ = cc in wrong)
 
-few_before : (s : Standing) (words : List ℕ) → IsKept s words → is_full s ≡ false → length s.claims < 4095
+few_before : (s : Standing) (words : List ℕ) → IsKept s words → is_full s.given (length s.claims) ≡ false → length s.claims < 4095
 few_before s words kept room =
     let other : length s.claims ≢ 4095 = not_full s.given (length s.claims) (s.given == 2 ^ 64 - 1) (length s.claims == 4095) refl room in
     let few = kept.few in
     grind (arith)
 
-pub words_fit : (held : List Held) (given spare : ℕ) (words : List ℕ) (footprint : List (ℕ × Mode)) → IsKept (standing_with held given spare) words → is_full (standing_with held given spare) ≡ false → IsFootprint footprint → (lock : ℕ) → get_or words lock 0 + amounts footprint lock < 18446744073709551616
+pub words_fit : (held : List Held) (given spare : ℕ) (words : List ℕ) (footprint : List (ℕ × Mode)) → IsKept (standing_with held given spare) words → is_full given (length (claims_in held)) ≡ false → IsFootprint footprint → (lock : ℕ) → get_or words lock 0 + amounts footprint lock < 18446744073709551616
 words_fit held given spare words footprint kept room taken lock =
     omega (
       arith,
@@ -148,7 +148,7 @@ words_fit held given spare words footprint kept room taken lock =
     )
 
 -- one claim more
-pub IsKept-push : (held held' : List Held) (given spare : ℕ) (words words' : List ℕ) (candidate : Candidate) (footprint : List (ℕ × Mode)) → IsKept (standing_with held given spare) words → is_full (standing_with held given spare) ≡ false → 0 < spare → IsFootprint footprint → held' ≡ held ++ record { claim = record { number = given + 1; candidate = candidate }; footprint = footprint } ∷ [] → ((lock : ℕ) → get_or words' lock 0 ≡ get_or words lock 0 + amounts footprint lock) → length words' ≡ length words → IsKept (standing_with held' (given + 1) (spare - 1)) words'
+pub IsKept-push : (held held' : List Held) (given spare : ℕ) (words words' : List ℕ) (candidate : Candidate) (footprint : List (ℕ × Mode)) → IsKept (standing_with held given spare) words → is_full given (length (claims_in held)) ≡ false → 0 < spare → IsFootprint footprint → held' ≡ held ++ record { claim = record { number = given + 1; candidate = candidate }; footprint = footprint } ∷ [] → ((lock : ℕ) → get_or words' lock 0 ≡ get_or words lock 0 + amounts footprint lock) → length words' ≡ length words → IsKept (standing_with held' (given + 1) (spare - 1)) words'
 IsKept-push held held' given spare words words' candidate footprint kept room some taken is more same =
     let last : Held = record { claim = record { number = given + 1; candidate = candidate }; footprint = footprint } in
     let claims : claims_in held' ≡ claims_in held ++ last.claim ∷ [] = ap claims_in is ∙ map-append (λ (h : Held). h.claim) held (last ∷ []) in

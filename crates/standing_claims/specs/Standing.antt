@@ -25,14 +25,18 @@ numbers_of claims = map (λ (claim : Claim). claim.number) claims
 abbrev pub claim_numbered : List Claim → ℕ → Option Claim
 claim_numbered claims number = find (λ (claim : Claim). claim.number == number) claims
 
--- the number of the first claim of this choice
-abbrev pub number_of_choice : List Claim → Choice → Option ℕ
-number_of_choice claims choice =
-    option_map (λ (claim : Claim). claim.number) (find (λ (claim : Claim). same_choice claim.candidate.choice choice) claims)
+-- the first claim of this choice
+abbrev pub claim_of_choice : List Claim → Choice → Option Claim
+claim_of_choice claims choice = find (λ (claim : Claim). same_choice claim.candidate.choice choice) claims
 
--- whether no further claim has room: there is no further number, or as many stand as a word can count
-abbrev pub is_full : Standing → Bool
-is_full s = (s.given == 2 ^ 64 - 1) || (length s.claims == 4095)
+-- and its number
+abbrev pub number_of_choice : List Claim → Choice → Option ℕ
+number_of_choice claims choice = option_map (λ (claim : Claim). claim.number) (claim_of_choice claims choice)
+
+-- whether no further claim has room, after so many numbers and beside so many claims: there is no further number, or as many
+-- stand as a word can count
+abbrev pub is_full : ℕ → ℕ → Bool
+is_full given standing = (given == 2 ^ 64 - 1) || (standing == 4095)
 
 -- the claims without the one with this number
 abbrev pub claims_without : Standing → ℕ → List Claim

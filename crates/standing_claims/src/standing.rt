@@ -125,7 +125,7 @@ impl Standing {
 
     /// Whether no further claim has room: there is no further number, or 4,095 claims stand.
     pub fn is_full(&self) -> bool
-        ensures { result ≡ is_full self.now }
+        ensures { result ≡ is_full self.now.given (length self.now.claims) }
     {
         self.given == u64::MAX || self.claims.len() == MOST
     }
@@ -150,7 +150,7 @@ impl Standing {
     /// footprint. It touches one word for each demand, and takes no memory.
     pub fn add(&mut self, candidate: Candidate, footprint: Vec<(u32, Mode)>) -> u64
         requires room { 0 < self.old.spare }
-        requires not_full { is_full self.old ≡ false }
+        requires not_full { is_full self.old.given (length self.old.claims) ≡ false }
         requires footprint { IsFootprint footprint.items }
         ensures number { result ≡ self.old.given + 1 }
         ensures claims { self.new.claims

@@ -11,8 +11,9 @@ use Rattle.std.proofs.lemmas.List.Folds.{list_any-append}
 use Rattle.std.proofs.lemmas.List.FromFn.{length-range_with_len}
 use Rattle.rule_base.specs.Memory.{Rises}
 use Rattle.rule_base.proofs.EachLemmas.{Each-always, Each-append, Each-filter, Each-filtered, Each-weaker}
-use Rattle.working_memory.specs.Memory.{IsKept, has_place, is_here}
-use Rattle.working_memory.proofs.PlaceLemmas.{Rises-filter, Rises-once, Rises-push, Rises-range, below-range, filter-agree, filter-all, filter-both, has_place-filter, has_place-range}
+use Rattle.working_memory.specs.Memory.{IsKept, is_here}
+use Rattle.working_memory.proofs.PlaceLemmas.{Rises-filter, Rises-once, Rises-push, Rises-range, below-range, filter-agree, filter-all, filter-both, has_number-filter, has_number-range}
+use Rattle.rule_base.specs.Numbers.{has_number}
 
 -- no more are there than there are slots
 fewer_step : {X : Type 0} (b : Bool) (x : X) (xs : List X) (n : ℕ) → length xs ≤ n → length (cond b (x ∷ xs) xs) ≤ suc n
@@ -31,15 +32,15 @@ kept_step : (b : Bool) (rest : Bool) → (b ≡ true → rest ≡ true) → (b &
 kept_step true rest here = here refl
 kept_step false rest here = refl
 
-pub kept_has : (slots : List ℕ) (here : List Bool) (count place : ℕ) → IsKept slots here count → has_place (filter (is_here here) slots) place ≡ is_here here place
-kept_has slots here count place kept = has_place-filter (is_here here) slots place ∙ kept_step (is_here here place) (has_place slots place) (kept.held place)
+pub kept_has : (slots : List ℕ) (here : List Bool) (count place : ℕ) → IsKept slots here count → has_number (filter (is_here here) slots) place ≡ is_here here place
+kept_has slots here count place kept = has_number-filter (is_here here) slots place ∙ kept_step (is_here here place) (has_number slots place) (kept.held place)
 
-pub kept_slots : (slots : List ℕ) (here : List Bool) (count : ℕ) → IsKept slots here count → filter (has_place (filter (is_here here) slots)) slots ≡ filter (is_here here) slots
-kept_slots slots here count kept = filter-agree (has_place (filter (is_here here) slots)) (is_here here) slots (Each-always _ (λ place. kept_has slots here count place kept) slots)
+pub kept_slots : (slots : List ℕ) (here : List Bool) (count : ℕ) → IsKept slots here count → filter (has_number (filter (is_here here) slots)) slots ≡ filter (is_here here) slots
+kept_slots slots here count kept = filter-agree (has_number (filter (is_here here) slots)) (is_here here) slots (Each-always _ (λ place. kept_has slots here count place kept) slots)
 
 -- the flag of a place that is there is set
-pub flag_set : (slots : List ℕ) (here : List Bool) (count place : ℕ) (places : List ℕ) (found : Bool) → IsKept slots here count → filter (is_here here) slots ≡ places → found ≡ has_place places place → found ≡ true → is_here here place ≡ true
-flag_set slots here count place places found kept view told is = sym (kept_has slots here count place kept) ∙ ap (λ ps. has_place ps place) view ∙ sym told ∙ is
+pub flag_set : (slots : List ℕ) (here : List Bool) (count place : ℕ) (places : List ℕ) (found : Bool) → IsKept slots here count → filter (is_here here) slots ≡ places → found ≡ has_number places place → found ≡ true → is_here here place ≡ true
+flag_set slots here count place places found kept view told is = sym (kept_has slots here count place kept) ∙ ap (λ ps. has_number ps place) view ∙ sym told ∙ is
 
 -- the places that are there rise, and each came
 pub kept_rises : (slots : List ℕ) (here : List Bool) (count : ℕ) → IsKept slots here count → Rises (filter (is_here here) slots) × AllByRecursion (λ p. p < length here) (filter (is_here here) slots)
@@ -59,7 +60,7 @@ new_kept : (count : ℕ) → IsKept (range_with_len 0 count) (replicate count tr
 new_kept count = record {
   rising = Rises-range 0 count;
   below = below-range (length (replicate count true)) 0 count (omega (arith, length-replicate count true));
-  held = λ place is. has_place-range 0 count place (omega arith) (omega (arith, is_here-within (replicate count true) place is, length-replicate count true));
+  held = λ place is. has_number-range 0 count place (omega arith) (omega (arith, is_here-within (replicate count true) place is, length-replicate count true));
   living = sym (ap length (new_places count) ∙ length-range_with_len 0 count);
 }
 
@@ -94,7 +95,7 @@ push_kept slots here count kept =
       below = Each-append (λ p. p < length more) slots (length here ∷ []) (Each-weaker (λ p. p < length here) (λ p. p < length more) (λ p lt. omega (arith, lt, longer)) slots kept.below) (omega (arith, longer), tt);
       held = λ place is.
           list_any-append (λ p. p == place) slots (length here ∷ [])
-          ∙ held_step (length here == place) place (length here) (has_place slots place) refl (λ lt. kept.held place (sym (get_or_append_left here (true ∷ []) false place lt) ∙ is)) (omega (arith, is_here-within more place is, longer));
+          ∙ held_step (length here == place) place (length here) (has_number slots place) refl (λ lt. kept.held place (sym (get_or_append_left here (true ∷ []) false place lt) ∙ is)) (omega (arith, is_here-within more place is, longer));
       living = omega (arith, kept.living, ap length (push_places slots here kept.below), length-append (filter (is_here here) slots) (length here ∷ []));
     }
 
@@ -125,7 +126,7 @@ IsKept-removed slots here count place kept is =
     let within = is_here-within here place is in
     let less = set here place false in
     let same : length less ≡ length here = length-set here place false in
-    let there : has_place (filter (is_here here) slots) place ≡ true = kept_has slots here count place kept ∙ is in
+    let there : has_number (filter (is_here here) slots) place ≡ true = kept_has slots here count place kept ∙ is in
     record {
       rising = kept.rising;
       below = Each-weaker (λ p. p < length here) (λ p. p < length less) (λ p lt. omega (arith, lt, same)) slots kept.below;

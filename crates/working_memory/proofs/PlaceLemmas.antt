@@ -5,7 +5,7 @@ use Rattle.std.proofs.lemmas.Bool.{eqb-true}
 use Rattle.std.proofs.lemmas.Bool.Decides.{nat_tests}
 use Rattle.std.proofs.lemmas.Map.Views.{any-filter_same}
 use Rattle.rule_base.specs.Memory.{Rises, RisesFrom}
-use Rattle.working_memory.specs.Memory.{has_place}
+use Rattle.rule_base.specs.Numbers.{has_number}
 
 -- tests that agree on each item leave the same
 filter_step : {X : Type 0} (a b : Bool) (x : X) (xs ys : List X) → a ≡ b → xs ≡ ys → cond a (x ∷ xs) xs ≡ cond b (x ∷ ys) ys
@@ -38,8 +38,8 @@ filter-both f g h [] both = refl
 filter-both f g h (x ∷ xs) both = both_step (f x) (h x) (g x) f x (filter h xs) (filter g xs) refl both.0 (filter-both f g h xs both.1)
 
 -- a place is among what is left if it passes and was among all
-pub has_place-filter : (f : ℕ → Bool) (places : List ℕ) (place : ℕ) → has_place (filter f places) place ≡ (f place && has_place places place)
-has_place-filter f places place = any-filter_same (λ p. p == place) f (f place) (λ p same. ap f (eqb-true p place same)) places
+pub has_number-filter : (f : ℕ → Bool) (places : List ℕ) (place : ℕ) → has_number (filter f places) place ≡ (f place && has_number places place)
+has_number-filter f places place = any-filter_same (λ p. p == place) f (f place) (λ p same. ap f (eqb-true p place same)) places
 
 -- places above a number are above each smaller one
 pub RisesFrom-lower : (low high : ℕ) (places : List ℕ) → low ≤ high → RisesFrom high places → RisesFrom low places
@@ -82,26 +82,26 @@ above_stay low place (p ∷ places) le rises =
     rw differs (ap (λ rest. p ∷ rest) (above_stay p place places (omega (arith, rises.0)) rises.1))
 
 -- nothing goes with a place that isn't there
-absent_step : (b : Bool) (place p : ℕ) (places : List ℕ) → (b || has_place places place) ≡ false → (has_place places place ≡ false → filter (λ q. not (q == place)) places ≡ places) → cond (not b) (p ∷ filter (λ q. not (q == place)) places) (filter (λ q. not (q == place)) places) ≡ p ∷ places
+absent_step : (b : Bool) (place p : ℕ) (places : List ℕ) → (b || has_number places place) ≡ false → (has_number places place ≡ false → filter (λ q. not (q == place)) places ≡ places) → cond (not b) (p ∷ filter (λ q. not (q == place)) places) (filter (λ q. not (q == place)) places) ≡ p ∷ places
 absent_step false place p places absent rest = ap (λ qs. p ∷ qs) (rest absent)
 absent_step true place p places absent rest = absurd (let wrong : ⊥ = cc in wrong)
 
-pub filter-absent : (place : ℕ) (places : List ℕ) → has_place places place ≡ false → filter (λ p. not (p == place)) places ≡ places
+pub filter-absent : (place : ℕ) (places : List ℕ) → has_number places place ≡ false → filter (λ p. not (p == place)) places ≡ places
 filter-absent place [] absent = refl
 filter-absent place (p ∷ places) absent = absent_step (p == place) place p places absent (filter-absent place places)
 
 -- one goes with a place that is there
-once_step : (b : Bool) (place p : ℕ) (places : List ℕ) → RisesFrom p places → (p == place) ≡ b → (b || has_place places place) ≡ true → (has_place places place ≡ true → length (filter (λ q. not (q == place)) places) + 1 ≡ length places) → length (cond (not b) (p ∷ filter (λ q. not (q == place)) places) (filter (λ q. not (q == place)) places)) + 1 ≡ suc (length places)
+once_step : (b : Bool) (place p : ℕ) (places : List ℕ) → RisesFrom p places → (p == place) ≡ b → (b || has_number places place) ≡ true → (has_number places place ≡ true → length (filter (λ q. not (q == place)) places) + 1 ≡ length places) → length (cond (not b) (p ∷ filter (λ q. not (q == place)) places) (filter (λ q. not (q == place)) places)) + 1 ≡ suc (length places)
 once_step true place p places rises is here rest =
     let same : p ≡ place = eqb-true p place is in
     omega (arith, ap length (above_stay p place places (omega (arith, same)) rises))
 once_step false place p places rises is here rest = omega (arith, rest here)
 
-RisesFrom-once : (low place : ℕ) (places : List ℕ) → RisesFrom low places → has_place places place ≡ true → length (filter (λ p. not (p == place)) places) + 1 ≡ length places
+RisesFrom-once : (low place : ℕ) (places : List ℕ) → RisesFrom low places → has_number places place ≡ true → length (filter (λ p. not (p == place)) places) + 1 ≡ length places
 RisesFrom-once low place [] rises here = absurd (let wrong : ⊥ = cc in wrong)
 RisesFrom-once low place (p ∷ places) rises here = once_step (p == place) place p places rises.1 refl here (RisesFrom-once p place places rises.1)
 
-pub Rises-once : (place : ℕ) (places : List ℕ) → Rises places → has_place places place ≡ true → length (filter (λ p. not (p == place)) places) + 1 ≡ length places
+pub Rises-once : (place : ℕ) (places : List ℕ) → Rises places → has_number places place ≡ true → length (filter (λ p. not (p == place)) places) + 1 ≡ length places
 Rises-once place [] rises here = absurd (let wrong : ⊥ = cc in wrong)
 Rises-once place (p ∷ places) rises here = once_step (p == place) place p places rises refl here (RisesFrom-once p place places rises)
 
@@ -122,6 +122,6 @@ range_step : (b : Bool) (first place : ℕ) (rest : Bool) → (first == place) �
 range_step true first place rest is le later = refl
 range_step false first place rest is le later = later (grind (arith, nat_tests))
 
-pub has_place-range : (first count place : ℕ) → first ≤ place → place < first + count → has_place (range_with_len first count) place ≡ true
-has_place-range first zero place le lt = absurd (omega (arith, le, lt))
-has_place-range first (suc count) place le lt = range_step (first == place) first place (has_place (range_with_len (first + 1) count) place) refl le (λ later. has_place-range (first + 1) count place later (omega (arith, lt)))
+pub has_number-range : (first count place : ℕ) → first ≤ place → place < first + count → has_number (range_with_len first count) place ≡ true
+has_number-range first zero place le lt = absurd (omega (arith, le, lt))
+has_number-range first (suc count) place le lt = range_step (first == place) first place (has_number (range_with_len (first + 1) count) place) refl le (λ later. has_number-range (first + 1) count place later (omega (arith, lt)))

@@ -1,17 +1,14 @@
 -- Which places are in working memory.
-use Rattle.std.specs.Prelude.{◌≡◌, ℕ, ◌<◌, ◌==◌, Bool, false, true, List, filter, length, slice_index_or}
-use Rattle.std.specs.List.{AllByRecursion, list_any}
+use Rattle.std.specs.Prelude.{◌≡◌, ℕ, ◌<◌, Bool, false, true, List, filter, length, slice_index_or}
+use Rattle.std.specs.List.{AllByRecursion}
 use Rattle.rule_base.specs.Memory.{Rises}
+use Rattle.rule_base.specs.Numbers.{has_number}
 
 -- the places in working memory in order, how many elements ever came, and how many more it takes in without memory
 pub record Places : Type 0 where
   pub places : List ℕ
   pub came : ℕ
   pub spare : ℕ
-
--- whether a place is among these
-abbrev pub has_place : List ℕ → ℕ → Bool
-has_place places place = list_any (λ p. p == place) places
 
 -- whether the element at a place is in working memory, by the flags of all that came
 abbrev pub is_here : List Bool → ℕ → Bool
@@ -21,5 +18,5 @@ is_here here place = slice_index_or here place false
 pub record IsKept (slots : List ℕ) (here : List Bool) (count : ℕ) : Type 0 where
   pub rising : Rises slots
   pub below : AllByRecursion (λ p. p < length here) slots
-  pub held : (place : ℕ) → is_here here place ≡ true → has_place slots place ≡ true
+  pub held : (place : ℕ) → is_here here place ≡ true → has_number slots place ≡ true
   pub living : count ≡ length (filter (is_here here) slots)

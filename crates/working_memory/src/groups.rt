@@ -2,8 +2,8 @@
 
 ghost use Rattle.std.specs.Prelude.{◌≡◌, [], ◌∷◌, ◌++◌, filter, if◌then◌else◌, OnErr, OnOk};
 ghost use Rattle.working_memory.specs.declared.groups.Key.{Key};
-ghost use Rattle.working_memory.specs.Memory.{has_place};
 ghost use Rattle.working_memory.specs.Groups.{code_of, group, same_code, same_key};
+ghost use Rattle.rule_base.specs.Numbers.{has_number};
 
 use crate::memory::Memory;
 use indexmap::IndexMap;
@@ -58,7 +58,7 @@ impl Group {
     }
 
     fn clean(&mut self, memory: &Memory)
-        ensures { self.new ≡ filter (has_place memory.now.places) self.old }
+        ensures { self.new ≡ filter (has_number memory.now.places) self.old }
     {
         self.places.retain(|place| memory.has(*place));
     }
@@ -121,7 +121,7 @@ impl Groups {
     /// place of that group once, and takes no memory.
     pub fn clean(&mut self, key: Key, memory: &Memory)
         ensures { (k : Key) → group self.new k
-            ≡ (if same_key key k then filter (has_place memory.now.places) (group self.old k) else group self.old k) }
+            ≡ (if same_key key k then filter (has_number memory.now.places) (group self.old k) else group self.old k) }
     {
         match self.groups.get_mut(&code_of(key)) {
             Some(group) => group.clean(memory),

@@ -3,7 +3,8 @@
 ghost use Rattle.std.specs.Prelude.{◌≡◌, ◌+◌, ◌<◌, ◌≤◌, ◌==◌, [], ◌∷◌, ◌++◌, ◌↔◌, IfOk, IsTrue, OnOk, filter, length, not, replicate, true, vec_capacity, vec_len};
 ghost use Rattle.std.specs.List.{AllByRecursion, range_with_len};
 ghost use Rattle.rule_base.specs.Memory.{Rises};
-ghost use Rattle.working_memory.specs.Memory.{has_place, is_here};
+ghost use Rattle.working_memory.specs.Memory.{is_here};
+ghost use Rattle.rule_base.specs.Numbers.{has_number};
 
 use ops_text::OutOfMemory;
 use rule_base::Steps;
@@ -98,7 +99,7 @@ impl Memory {
     /// Takes a place away, and says whether it was in working memory. It takes no memory, and a constant
     /// time.
     pub fn remove<L: Ledger>(&mut self, place: usize, steps: &mut Steps<L>) -> bool
-        ensures found { result ≡ has_place self.old.places place }
+        ensures found { result ≡ has_number self.old.places place }
         ensures places { self.new.places ≡ filter (λ p. not (p == place)) self.old.places }
         ensures came { self.new.came ≡ self.old.came }
         ensures spare { self.old.spare ≤ self.new.spare }
@@ -115,14 +116,14 @@ impl Memory {
 
     /// Whether a place is in working memory. It takes a constant time.
     pub fn has(&self, place: usize) -> bool
-        ensures { result ≡ has_place self.now.places place }
+        ensures { result ≡ has_number self.now.places place }
     {
         is_here(self.here.as_slice(), place)
     }
 
     /// The places in working memory in rising order, and among them some that have gone: ask `has`.
     pub fn slots(&self) -> &[usize]
-        ensures { filter (has_place self.now.places) result.now ≡ self.now.places }
+        ensures { filter (has_number self.now.places) result.now ≡ self.now.places }
     {
         self.slots.as_slice()
     }

@@ -1,7 +1,7 @@
 -- The tests that are left give the same.
 use Rattle.std.proofs.Common.{◌≡◌, drop}
-use Rattle.interference.specs.Pins.{first_answer}
 use Rattle.firing_core.specs.PinnedKeys.{key_by, pinned_key}
+use Rattle.rule_base.specs.Chains.{first_answer}
 use Rattle.firing_core.proofs.pinned_keys.pinned_key.Given as goal
 
 abbrev pub invariant-loop-test : goal.invariant-loop-test

@@ -2,8 +2,8 @@
 use lib.Pointwise.{pointwise}
 use Rattle.std.proofs.Common.{◌+◌, ◌&&◌, drop, ap, ◌∙◌, sym}
 use Rattle.rule_base.specs.Views.{element_in}
-use Rattle.firing_core.specs.Refusals.{same_element}
 use Rattle.firing_core.proofs.SameLemmas.{pointwise-next}
+use Rattle.rule_base.specs.Memory.{same_element}
 use Rattle.firing_core.proofs.same.same_elements.Goals as goal
 
 pub returns-then-not-same_element : goal.returns-then-not-same_element

@@ -1,7 +1,7 @@
 -- The lists are the same where what is left of them is.
 use lib.Pointwise.{pointwise}
 use Rattle.std.proofs.Common.{◌≡◌, drop}
-use Rattle.firing_core.specs.Refusals.{same_element}
+use Rattle.rule_base.specs.Memory.{same_element}
 use Rattle.firing_core.proofs.same.same_elements.Given as goal
 
 abbrev pub invariant-loop-at : goal.invariant-loop-at

@@ -1,6 +1,7 @@
 -- The tests that are left tell the same.
 use Rattle.std.proofs.Common.{◌≡◌, drop}
-use Rattle.interference.specs.Pins.{first_answer, first_pin, pin}
+use Rattle.interference.specs.Pins.{first_pin, pin}
+use Rattle.rule_base.specs.Chains.{first_answer}
 use Rattle.interference.proofs.given.first_pin.Given as goal
 
 abbrev pub invariant-loop-test : goal.invariant-loop-test

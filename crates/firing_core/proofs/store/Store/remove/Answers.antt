@@ -2,7 +2,7 @@
 use Rattle.std.proofs.Common.{◌≡◌, [], ◌∷◌, ◌==◌, not, refl, Some, ap, ◌∙◌, subst, sym}
 use Rattle.rule_base.specs.Step.{without}
 use Rattle.firing_core.specs.Store.{IsPlaceOf, IsSameBesideMemory, Stored, at_places, came, memory_in}
-use Rattle.firing_core.proofs.LaterLemmas.{has_place-some}
+use Rattle.firing_core.proofs.LaterLemmas.{has_number-some}
 use Rattle.firing_core.proofs.StoredLemmas.{IsStored-fewer, Rises-stored, without_in, without_none}
 use Rattle.firing_core.proofs.store.Store.remove.Goals as goal
 
@@ -33,5 +33,5 @@ returns-in-Some-clause-others g c =
       entries = refl;
       next = refl;
       room = refl;
-      fewer = λ place has. has_place-some (λ p. not (p == c.in-Some.place)) inside.memory.places c.remove.new.self.places place c.remove.ensures.places has;
+      fewer = λ place has. has_number-some (λ p. not (p == c.in-Some.place)) inside.memory.places c.remove.new.self.places place c.remove.ensures.places has;
     })

@@ -4,11 +4,11 @@ use Rattle.std.specs.List.{filter}
 use Rattle.std.specs.Map.{lookup}
 use Rattle.std.specs.Option.{IsSome}
 use Rattle.working_memory.specs.declared.groups.Key.{Key}
-use Rattle.working_memory.specs.Memory.{has_place}
 use Rattle.working_memory.specs.Groups.{Code, Groups, group, same_code, same_key}
 use Rattle.working_memory.proofs.GroupLemmas.{grouped, grouped_absent}
 use Rattle.working_memory.proofs.groups.Groups.clean.Goals as goal
 use Rattle.working_memory.proofs.groups.Groups.clean.Goals.{in-Some, in-None}
+use Rattle.rule_base.specs.Numbers.{has_number}
 
 pub returns : goal.returns
 returns c =
@@ -16,7 +16,7 @@ returns c =
     let code = c.code_of in
     let old : Groups = c.self.inside.groups.entries in
     let new : Groups = c.match-get_mut.self-inside.groups.entries in
-    let left : List ℕ → List ℕ = filter (has_place c.args.memory.now.places) in
+    let left : List ℕ → List ℕ = filter (has_number c.args.memory.now.places) in
     let cleaned : (k : Key) → group new k ≡ cond (same_key key k) (left (group old k)) (group old k) =
     elim c.match-get_mut.branch [
       | in-Some w ↦ (
