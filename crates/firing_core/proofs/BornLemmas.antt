@@ -1,8 +1,7 @@
 -- What was born in entries, gone through from a place on.
-use Rattle.std.proofs.Common.{◌≡◌, ℕ, ◌+◌, List, [], ◌∷◌, ◌++◌, true, false, ◌||◌, Some, drop, map, is_some, slice_get, suc, zero, refl, ◌∙◌, ap, subst}
+use Rattle.std.proofs.Common.{◌≡◌, ℕ, ◌+◌, List, [], ◌∷◌, ◌++◌, true, false, ◌||◌, Some, drop, is_some, slice_get, suc, zero, ◌∙◌, ap, subst}
 use Rattle.std.specs.List.{AllByRecursion, filter_map}
 use Rattle.std.proofs.lemmas.List.Folds.{list_any-append}
-use Rattle.rule_base.specs.declared.change.Tagged.TheVariants.{Gone, Born}
 use Rattle.rule_base.specs.declared.condition.Cond.{Cond}
 use Rattle.rule_base.specs.declared.element.Element.{Element}
 use Rattle.rule_base.specs.declared.entry.Entry.{Entry}

@@ -3,12 +3,11 @@ use Rattle.std.proofs.Common.{◌≡◌, ◌+◌, ◌*◌, ◌<◌, ◌≤◌, L
 use Rattle.std.proofs.Math.Nat.{mul-le-mul_right}
 use Rattle.std.proofs.lemmas.List.{length_push}
 use Rattle.std.specs.List.{AllByRecursion}
-use Rattle.rule_base.specs.declared.element.Element.{Element}
 use Rattle.rule_base.specs.declared.instantiation.Choice.{Choice}
 use Rattle.rule_base.specs.declared.program.Rule.{Rule}
 use Rattle.rule_base.specs.Effect.{Effect, effect, removed_tags}
 use Rattle.rule_base.specs.Fits.{Fits}
-use Rattle.rule_base.specs.Memory.{HasSize, elements_at, tags_of}
+use Rattle.rule_base.specs.Memory.{HasSize, elements_at}
 use Rattle.rule_base.specs.Sound.{sizes_of}
 use Rattle.rule_base.specs.State.{count}
 use Rattle.rule_base.specs.Step.{born, effect_of, entry_of, step, without}

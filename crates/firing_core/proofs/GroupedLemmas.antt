@@ -1,5 +1,5 @@
 -- What groups of places tell: where all places were taken in, a group has each living element with its key.
-use Rattle.std.proofs.Common.{◌≡◌, ℕ, ◌<◌, ◌≤◌, List, [], ◌∷◌, ◌++◌, Bool, true, false, ◌||◌, ◌&&◌, cond, ◌==◌, Option, None, Some, is_some, length, option_to_list, slice_get, suc, zero, refl, ap, ◌∙◌, subst, sym, arith, append_assoc, length-append}
+use Rattle.std.proofs.Common.{◌≡◌, ℕ, ◌<◌, ◌≤◌, List, [], ◌∷◌, ◌++◌, Bool, true, false, ◌||◌, cond, ◌==◌, Option, None, Some, is_some, length, option_to_list, slice_get, suc, zero, refl, ap, ◌∙◌, subst, sym, arith, append_assoc, length-append}
 use Rattle.std.specs.List.{AllByRecursion, filter, filter_map, list_any}
 use Rattle.std.proofs.lemmas.Bool.{eq-eqb, eqb-true}
 use Rattle.std.proofs.lemmas.Grind.{flat_map-append}

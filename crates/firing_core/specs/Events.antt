@@ -1,16 +1,9 @@
 -- What happens to a core: the events, when each is possible, and what it makes of the core.
-use Rattle.std.specs.Prelude.{ℕ, ◌+◌, List, [], ◌∷◌, ◌++◌, Bool, false, ◌&&◌, not, Option, Some, filter, find, is_none, is_some, length, option_and_then, option_map, slice_get, ◌==◌}
-use Rattle.std.specs.List.{list_all}
-use Rattle.std.specs.Option.{option_map_or}
+use Rattle.std.specs.Prelude.{ℕ, ◌+◌, List, [], ◌∷◌, ◌++◌, ◌&&◌, not, Option, Some, filter, is_none, is_some, option_and_then, option_map, ◌==◌}
 use Rattle.std.specs.Result.{result_err}
-use Rattle.rule_base.specs.declared.element.Element.{Element}
 use Rattle.rule_base.specs.declared.instantiation.Choice.{Choice}
 use Rattle.rule_base.specs.declared.instantiation.Candidate.{Candidate}
-use Rattle.rule_base.specs.declared.program.Rule.{Rule}
-use Rattle.rule_base.specs.declared.program.Program.{Program}
 use Rattle.rule_base.specs.Chains.{only_if}
-use Rattle.rule_base.specs.Memory.{tags_of}
-use Rattle.rule_base.specs.Sound.{sizes_of}
 use Rattle.rule_base.specs.Effect.{Failure}
 use Rattle.rule_base.specs.State.{State}
 use Rattle.rule_base.specs.Step.{effect_of, step}
@@ -21,6 +14,7 @@ use Rattle.firing_core.specs.declared.claims.Event.{Event}
 use Rattle.firing_core.specs.declared.claims.Event.TheVariants as event
 use Rattle.firing_core.specs.CoreState.{CoreState, ended}
 use Rattle.firing_core.specs.Refusals.{claim_refusal}
+use Rattle.rule_base.specs.Fits.{is_fitting}
 
 -- the core with one more claim, which has the next number
 abbrev pub with_claim : CoreState → Candidate → CoreState

@@ -1,6 +1,5 @@
 -- Why a candidate can't be claimed.
-use lib.Pointwise.{pointwise}
-use Rattle.std.specs.Prelude.{ℕ, ◌^◌, ◌-◌, List, [], ◌∷◌, Bool, ◌&&◌, ◌||◌, not, Option, find, length, map, option_and_then, option_map, slice_get, ◌==◌}
+use Rattle.std.specs.Prelude.{ℕ, List, [], ◌∷◌, not, Option, find, length, map, option_and_then, option_map, slice_get}
 use Rattle.std.specs.List.{list_any}
 use Rattle.std.specs.Result.{result_err}
 use Rattle.rule_base.specs.declared.lock.Mode.{Mode}
@@ -13,8 +12,7 @@ use Rattle.rule_base.specs.declared.program.Program.{Program}
 use Rattle.rule_base.specs.Chains.{only_if, first_answer}
 use Rattle.rule_base.specs.Memory.{same_element, Memory}
 use Rattle.rule_base.specs.Match.{match_of}
-use Rattle.rule_base.specs.Value.{same_value}
-use Rattle.rule_base.specs.State.{has_fired, same_choice}
+use Rattle.rule_base.specs.State.{has_fired}
 use Rattle.interference.specs.Footprint.{footprint}
 use Rattle.interference.specs.Words.{first_busy, word_of}
 use Rattle.standing_claims.specs.declared.claim.Claim.{Claim}

@@ -160,7 +160,7 @@ fn seen_fault(alloc: Global, core: &Core) -> Result<Ending, OutOfMemory>
             action: seen.action,
             cause: seen.cause,
         }),
-        None => Ok(Ending::Quiet),
+        None => unreachable!(),
     }
 }
 

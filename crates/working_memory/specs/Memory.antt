@@ -4,10 +4,12 @@ use Rattle.std.specs.List.{AllByRecursion}
 use Rattle.rule_base.specs.Memory.{Rises}
 use Rattle.rule_base.specs.Numbers.{has_number}
 
--- the places in working memory in order, how many elements ever came, and how many more it takes in without memory
+-- the places in working memory in order, how many elements ever came, how many slots hold the places, and how many more elements
+-- it takes in without memory
 pub record Places : Type 0 where
   pub places : List ℕ
   pub came : ℕ
+  pub slots : ℕ
   pub spare : ℕ
 
 -- whether the element at a place is in working memory, by the flags of all that came

@@ -1,6 +1,6 @@
 //! Working memory as places: which of the elements that ever came haven't gone.
 
-ghost use Rattle.std.specs.Prelude.{◌≡◌, ◌+◌, ◌<◌, ◌≤◌, ◌==◌, [], ◌∷◌, ◌++◌, ◌↔◌, IfOk, IsTrue, OnOk, filter, length, not, replicate, true, vec_capacity, vec_len};
+ghost use Rattle.std.specs.Prelude.{◌≡◌, ◌+◌, ◌*◌, ◌<◌, ◌≤◌, ◌==◌, [], ◌∷◌, ◌++◌, ◌↔◌, IfOk, IsTrue, OnOk, filter, length, not, replicate, true, vec_capacity, vec_len};
 ghost use Rattle.std.specs.List.{AllByRecursion, range_with_len};
 ghost use Rattle.rule_base.specs.Memory.{Rises};
 ghost use Rattle.working_memory.specs.Memory.{is_here};
@@ -32,7 +32,7 @@ impl Model for Memory {
     ghost Value = { Places };
 
     ghost view = { λ m. record
-        { places = filter (is_here m.here.items) m.slots.items; came = length m.here.items; spare = m.spare } };
+        { places = filter (is_here m.here.items) m.slots.items; came = length m.here.items; slots = length m.slots.items; spare = m.spare } };
 
     ghost invariant = { λ m. IsKept m.slots.items m.here.items m.living
         × (m.spare + vec_len m.slots ≤ vec_capacity m.slots)
@@ -44,6 +44,7 @@ impl Memory {
     pub fn new(alloc: Global, count: usize) -> Result<Memory, OutOfMemory>
         ensures places { IfOk result (λ memory. memory.places ≡ range_with_len 0 count) }
         ensures came { IfOk result (λ memory. memory.came ≡ count) }
+        ensures slots { IfOk result (λ memory. memory.slots ≡ count) }
     {
         let slots = first_places(alloc, count)?;
         let here = set_flags(alloc, count)?;
@@ -56,10 +57,12 @@ impl Memory {
     }
 
     /// Room for so many more elements. Where more than half of the slots are places that have gone, it
-    /// drops those first, so over many calls it takes a constant time for each element that came.
+    /// drops those first, also where memory runs out then; so over many calls it takes a constant time
+    /// for each element that came.
     pub fn reserve(&mut self, n: usize) -> Result<(), OutOfMemory>
         ensures places { self.new.places ≡ self.old.places }
         ensures came { self.new.came ≡ self.old.came }
+        ensures packed { self.new.slots ≤ 2 * length self.new.places }
         ensures ok { OnOk result (n ≤ self.new.spare) }
         ensures kept { self.old.spare ≤ self.new.spare }
     {
@@ -72,7 +75,10 @@ impl Memory {
 
     /// Drops the places that have gone, where they are more than half of the slots.
     fn drop_holes(&mut self)
-        ensures { self.new ≡ self.old }
+        ensures places { self.new.places ≡ self.old.places }
+        ensures came { self.new.came ≡ self.old.came }
+        ensures spare { self.new.spare ≡ self.old.spare }
+        ensures packed { self.new.slots ≤ 2 * length self.new.places }
     {
         let len = self.slots.len();
         if len - self.living > len / 2 {
@@ -85,6 +91,7 @@ impl Memory {
         requires { 0 < self.old.spare }
         ensures places { self.new.places ≡ self.old.places ++ self.old.came ∷ [] }
         ensures came { self.new.came ≡ self.old.came + 1 }
+        ensures slots { self.new.slots ≡ self.old.slots + 1 }
         ensures spare { self.old.spare ≤ self.new.spare + 1 }
         ensures steps { steps.new ≤ steps.old + 2 }
     {
@@ -102,8 +109,9 @@ impl Memory {
         ensures found { result ≡ has_number self.old.places place }
         ensures places { self.new.places ≡ filter (λ p. not (p == place)) self.old.places }
         ensures came { self.new.came ≡ self.old.came }
+        ensures slots { self.new.slots ≡ self.old.slots }
         ensures spare { self.old.spare ≤ self.new.spare }
-        ensures steps { steps.new ≤ steps.old + 2 }
+        ensures steps { steps.new ≤ steps.old + 1 }
     {
         if !self.has(place) {
             return false;
@@ -123,7 +131,8 @@ impl Memory {
 
     /// The places in working memory in rising order, and among them some that have gone: ask `has`.
     pub fn slots(&self) -> &[usize]
-        ensures { filter (has_number self.now.places) result.now ≡ self.now.places }
+        ensures held { filter (has_number self.now.places) result.now ≡ self.now.places }
+        ensures counted { length result.now ≡ self.now.slots }
     {
         self.slots.as_slice()
     }

@@ -7,8 +7,8 @@ use Rattle.firing_core.specs.declared.claims.FaultSeen.{FaultSeen}
 use Rattle.firing_core.specs.Lawful.{IsEndingFault}
 use Rattle.firing_core.proofs.finishing.seen_fault.Goals as goal
 
-pub returns-in_ok-copy-in-Some-clause-ending : goal.returns-in_ok-copy-in-Some-clause-ending
-returns-in_ok-copy-in-Some-clause-ending c =
+pub returns-clause-ending : goal.returns-clause-ending
+returns-clause-ending c =
     let k = c.args.core.now in
     let seen : FaultSeen = c.in-Some.seen.now in
     let kept : k.fault ≡ Some seen = search rules in
@@ -24,8 +24,8 @@ same_fault one other o is_one is_other =
     let both : Some one ≡ Some other = sym is_one ∙ is_other in
     let same : one ≡ other = cc in same
 
-pub returns-in_ok-copy-in-Some-clause-kept : goal.returns-in_ok-copy-in-Some-clause-kept
-returns-in_ok-copy-in-Some-clause-kept c = λ seen ended_so is.
+pub returns-clause-kept : goal.returns-clause-kept
+returns-clause-kept c = λ seen ended_so is.
     let k = c.args.core.now in
     let here : FaultSeen = c.in-Some.seen.now in
     let kept : k.fault ≡ Some here = search rules in

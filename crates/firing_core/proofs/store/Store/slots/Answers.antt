@@ -6,4 +6,4 @@ use Rattle.firing_core.proofs.store.Store.slots.Goals as goal
 pub returns : goal.returns
 returns c =
     let inside = c.self.inside in
-    subst (λ (s : Stored). living_at s c.slots.result.now ≡ memory_in s) c.self.view_is (ap (at_places (came inside.base inside.journal.entries)) c.slots.ensures)
+    subst (λ (s : Stored). living_at s c.slots.result.now ≡ memory_in s) c.self.view_is (ap (at_places (came inside.base inside.journal.entries)) c.slots.ensures.held)

@@ -1,5 +1,6 @@
 -- All flags are set.
-use Rattle.std.proofs.Common.{arith}
+use Rattle.std.proofs.Common.{ap, ◌∙◌, arith, length}
+use Rattle.std.proofs.lemmas.List.FromFn.{length-range_with_len}
 use Rattle.working_memory.proofs.KeptLemmas.{IsKept-new, places-new}
 use Rattle.working_memory.proofs.memory.Memory.new.Goals as goal
 
@@ -11,3 +12,6 @@ invariant_of-result c =
 
 pub returns-clause-places : goal.returns-clause-places
 returns-clause-places c = places-new c.in_ok-slots.slots.items c.in_ok-here.here.items c.args.count c.in_ok-slots.ensures c.in_ok-here.ensures
+
+pub returns-clause-slots : goal.returns-clause-slots
+returns-clause-slots c = ap length c.in_ok-slots.ensures ∙ length-range_with_len 0 c.args.count

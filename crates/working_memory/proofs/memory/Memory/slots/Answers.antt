@@ -6,8 +6,8 @@ use Rattle.working_memory.proofs.KeptLemmas.{kept_slots}
 use Rattle.rule_base.specs.Numbers.{has_number}
 use Rattle.working_memory.proofs.memory.Memory.slots.Goals as goal
 
-pub returns : goal.returns
-returns c =
+pub returns-clause-held : goal.returns-clause-held
+returns-clause-held c =
     let inside = c.self.inside in
     ap (filter (has_number c.args.self.now.places)) c.as_slice.ensures.value
     ∙ subst (λ (m : Places). filter (has_number m.places) inside.slots.items ≡ m.places) c.self.view_is
