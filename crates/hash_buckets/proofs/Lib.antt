@@ -1,0 +1,6 @@
+-- the last place that passes a test
+pub mod PlaceLemmas
+-- what links say, and what a new link or a cut changes
+pub mod LinkLemmas
+-- the numbers of one hash, newest first
+pub mod BucketLemmas

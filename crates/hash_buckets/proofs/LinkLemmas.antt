@@ -1,0 +1,1 @@
+-- What links say, and what a new link or a cut changes.
