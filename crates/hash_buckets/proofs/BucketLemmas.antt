@@ -3,7 +3,7 @@ use Rattle.std.proofs.Common.{◌≡◌, add-one, inl, inr, ℕ, zero, suc, ◌+
 use Rattle.std.specs.List.{filter}
 use Rattle.std.proofs.Math.Seq.{take-suc}
 use Rattle.std.proofs.lemmas.Bool.{cases_lt, eqb-true}
-use Rattle.std.proofs.lemmas.List.{append-nil, get_or_past, map-append, reverse-append, take_all}
+use Rattle.std.proofs.lemmas.List.{append-nil, get_or_default, get_or_past, map-append, reverse-append, take_all}
 use Rattle.std.proofs.lemmas.List.Elements.{filter-append}
 use Rattle.hash_buckets.specs.Buckets.{numbers_of}
 use Rattle.hash_buckets.specs.Links.{AreLinked, bucket, entries_of, entry_of, is_linked, is_under, last_place, link_at, newest, no_link}
@@ -71,34 +71,50 @@ both false b is = absurd (let wrong : ⊥ = cc in wrong)
 pub is_under-within : (hash place : ℕ) (links : List Link) → is_under hash (link_at links place) ≡ true → place < length links
 is_under-within hash place links under = elim (cases_lt place (length links)) [ inl lt ↦ lt | inr le ↦ absurd (let past = past_step hash place links le in let wrong : ⊥ = cc in wrong) ]
 
--- where a walk may be: at a link that is under the hash, or at the end
-pub record IsWalk (hash : ℕ) (links : List Link) (place : ℕ) : Type 0 where
-  pub under : is_under hash (link_at links place) ≡ true
-  pub number : bucket hash links (place + 1) ≡ (link_at links place).number ∷ bucket hash links (link_at links place).next
-  pub goes_on : newest hash links (link_at links place).next ≡ (link_at links place).next
-  pub lower : (link_at links place).next ≤ place
-  pub within : place < length links
+-- a walk under a hash is at a link, which is the newest of those up to it: that comes next, and then the older ones
+pub record IsStep (hash : ℕ) (links : List Link) (at : ℕ) (link : Link) : Type 0 where
+  pub number : bucket hash links at ≡ link.number ∷ bucket hash links link.next
+  pub goes_on : newest hash links link.next ≡ link.next
+  pub lower : link.next < at
+  pub within : at ≤ length links
 
-pub walk_from_under : (hash : ℕ) (links : List Link) (place : ℕ) → AreLinked links → is_under hash (link_at links place) ≡ true → IsWalk hash links place
-walk_from_under hash links place linked under =
+pub step_from_under : (hash : ℕ) (links : List Link) (place : ℕ) → AreLinked links → is_under hash (link_at links place) ≡ true → IsStep hash links (suc place) (link_at links place)
+step_from_under hash links place linked under =
     let parts = both ((link_at links place).hash == hash) (is_linked (link_at links place)) under in
     let same : (link_at links place).hash ≡ hash = eqb-true (link_at links place).hash hash parts.0 in
     let next : (link_at links place).next ≡ newest hash links place = linked.older place parts.1 ∙ ap (λ (h : ℕ). newest h links place) same in
     let test : ℕ → Bool = λ (p : ℕ). is_under hash (link_at links p) in
     record {
-      under = under;
       number =
-        ap (bucket hash links) (add-one place)
-        ∙ bucket-suc hash place links
+        bucket-suc hash place links
         ∙ ap (λ (b : Bool). cond b ((link_at links place).number ∷ bucket hash links place) (bucket hash links place)) under
         ∙ ap (λ (ns : List ℕ). (link_at links place).number ∷ ns) (bucket-newest hash place links ∙ ap (bucket hash links) (sym next));
       goes_on = ap (newest hash links) next ∙ last_place-again test place ∙ sym next;
       lower = omega (arith, next, last_place-within test place);
-      within = is_under-within hash place links under;
+      within = omega (arith, is_under-within hash place links under);
     }
 
-pub walk_at : (hash at : ℕ) (links : List Link) → AreLinked links → newest hash links at ≡ at → 0 < at → IsWalk hash links (at - 1)
-walk_at hash zero links linked is some = absurd (let wrong : ⊥ = omega (arith, some) in wrong)
-walk_at hash (suc place) links linked is some =
-    let same : suc place - 1 ≡ place = omega arith in
-    rw same (walk_from_under hash links place linked (last_place-passes (λ (p : ℕ). is_under hash (link_at links p)) (suc place) place is))
+-- what stands before an `at` that a walk may have
+pub under_at : (hash at : ℕ) (links : List Link) → newest hash links at ≡ at → (at ≡ 0 → ⊥) → (place : ℕ) × (at ≡ suc place) × (at - 1 ≡ place) × (is_under hash (link_at links place) ≡ true)
+under_at hash zero links is some = absurd (some refl)
+under_at hash (suc place) links is some = (place, refl, omega arith, last_place-passes (λ (p : ℕ). is_under hash (link_at links p)) (suc place) place is)
+
+pub step_at : (hash at : ℕ) (links : List Link) (past : Link) → AreLinked links → newest hash links at ≡ at → (at ≡ 0 → ⊥) → IsStep hash links at (get_or links (at - 1) past)
+step_at hash zero links past linked is some = absurd (some refl)
+step_at hash (suc place) links past linked is some =
+    let under = last_place-passes (λ (p : ℕ). is_under hash (link_at links p)) (suc place) place is in
+    let here : get_or links (suc place - 1) past ≡ link_at links place = ap (λ (p : ℕ). get_or links p past) (let e : suc place - 1 ≡ place = omega arith in e) ∙ get_or_default links place past no_link (is_under-within hash place links under) in
+    subst (IsStep hash links (suc place)) (sym here) (step_from_under hash links place linked under)
+
+-- a walk that begins at the newest link tells the whole bucket
+pub walk_begins : (hash head : ℕ) (links slice : List Link) → AreLinked links → slice ≡ links → head ≡ newest hash links (length links) → AreLinked slice × (newest hash slice head ≡ head)
+walk_begins hash head links slice linked same is =
+    (subst AreLinked (sym same) linked,
+    ap (λ (ls : List Link). newest hash ls head) same ∙ ap (newest hash links) is ∙ last_place-again (λ (p : ℕ). is_under hash (link_at links p)) (length links) ∙ sym is)
+
+pub walk_whole : (hash head : ℕ) (links slice : List Link) → slice ≡ links → head ≡ newest hash links (length links) → bucket hash slice head ≡ reverse (numbers_of (entries_of links) hash)
+walk_whole hash head links slice same is =
+    ap (λ (ls : List Link). bucket hash ls head) same
+    ∙ ap (bucket hash links) is
+    ∙ sym (bucket-newest hash (length links) links)
+    ∙ ap (λ (ls : List Link). reverse (numbers_of (entries_of ls) hash)) (take_all (length links) links (omega arith))

@@ -59,3 +59,8 @@ with_next links place next = slice_set links place (record (link_at links place)
 abbrev pub with_next_after : List Link → ℕ → ℕ → List Link
 with_next_after links zero next = links
 with_next_after links (suc place) next = with_next links place next
+
+-- the newest link, once the one after a link is another
+abbrev pub first_after : ℕ → ℕ → ℕ → ℕ
+first_after zero first next = next
+first_after (suc place) first next = first

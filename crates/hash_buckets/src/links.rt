@@ -2,7 +2,7 @@
 
 ghost use Rattle.std.specs.Prelude.{◌≡◌, ℕ, Bool, ◌-◌, ◌<◌, ◌≤◌, filter, length, false, ◌==◌};
 ghost use Rattle.hash_buckets.specs.Buckets.{stays};
-ghost use Rattle.hash_buckets.specs.Links.{AreLinked, entries_of, newest, with_next, with_next_after};
+ghost use Rattle.hash_buckets.specs.Links.{AreLinked, entries_of, first_after, newest, with_next, with_next_after};
 
 /// What tells which numbers live.
 pub trait Living {
@@ -50,25 +50,28 @@ pub(crate) fn clean_bucket<L: Living>(
         if living.is_living(link.number) {
             kept = at;
         } else {
-            unlink(links, kept, at, link.next);
-            first = if kept == 0 { link.next } else { first };
+            first = unlink(links, first, kept, at, link.next);
         }
         at = link.next;
     }
     first
 }
 
-/// Unlinks a link, to which `kept` leads if it isn't 0, and lets that lead to `next`.
-fn unlink(links: &mut [Link], kept: u32, at: u32, next: u32)
+/// Unlinks a link. The link at `kept`, or where that is 0 the bucket itself, then leads to the next one.
+/// It answers the newest link, which was `first`.
+fn unlink(links: &mut [Link], first: u32, kept: u32, at: u32, next: u32) -> u32
     requires at { 0 < at }
     requires within { at ≤ length links.old }
     requires kept { kept ≤ length links.old }
-    ensures { links.new ≡ with_next_after (with_next links.old (at - 1) UNLINKED) kept next }
+    ensures links { links.new ≡ with_next_after (with_next links.old (at - 1) UNLINKED) kept next }
+    ensures first { result ≡ first_after kept first next }
 {
     let link = &mut links[at as usize - 1];
     link.next = UNLINKED;
-    if kept != 0 {
-        let link = &mut links[kept as usize - 1];
-        link.next = next;
+    if kept == 0 {
+        return next;
     }
+    let link = &mut links[kept as usize - 1];
+    link.next = next;
+    first
 }
