@@ -43,15 +43,15 @@ numbers-push hash links link =
     ∙ ap (λ (ns : List ℕ). numbers_of (entries_of links) hash ++ ns) (numbers_of-one hash link))
     ∙ push_step (is_under hash link) link.number (numbers_of (entries_of links) hash)
 
-past_step : (hash n : ℕ) (links : List Link) → length links ≤ n → is_under hash (link_at links n) ≡ false
-past_step hash n links le = ap (is_under hash) (get_or_past links n no_link le) ∙ (elim (0 == hash) as (λ b. (b && false) ≡ false) [ true ↦ refl | false ↦ refl ])
+pub past_under : (hash n : ℕ) (links : List Link) → length links ≤ n → is_under hash (link_at links n) ≡ false
+past_under hash n links le = ap (is_under hash) (get_or_past links n no_link le) ∙ (elim (0 == hash) as (λ b. (b && false) ≡ false) [ true ↦ refl | false ↦ refl ])
 
 bucket-suc : (hash n : ℕ) (links : List Link) → bucket hash links (suc n) ≡ cond (is_under hash (link_at links n)) ((link_at links n).number ∷ bucket hash links n) (bucket hash links n)
 bucket-suc hash n links = elim (cases_lt n (length links)) [
     inl lt ↦ ap (λ (ls : List Link). reverse (numbers_of (entries_of ls) hash)) (take-suc links n no_link lt) ∙ numbers-push hash (take n links) (link_at links n)
     | inr le ↦
         ap (λ (ls : List Link). reverse (numbers_of (entries_of ls) hash)) (take_all (suc n) links (omega (arith, le)) ∙ sym (take_all n links le))
-        ∙ sym (ap (λ (b : Bool). cond b ((link_at links n).number ∷ bucket hash links n) (bucket hash links n)) (past_step hash n links le)) ]
+        ∙ sym (ap (λ (b : Bool). cond b ((link_at links n).number ∷ bucket hash links n) (bucket hash links n)) (past_under hash n links le)) ]
 
 -- the newest link is where the bucket begins
 newest_step : (hash n : ℕ) (links : List Link) (b : Bool) → is_under hash (link_at links n) ≡ b → bucket hash links n ≡ bucket hash links (newest hash links n) → cond b ((link_at links n).number ∷ bucket hash links n) (bucket hash links n) ≡ bucket hash links (cond b (suc n) (newest hash links n))
@@ -69,7 +69,7 @@ both false b is = absurd (let wrong : ⊥ = cc in wrong)
 
 -- a link that is under a hash is no further than the links
 pub is_under-within : (hash place : ℕ) (links : List Link) → is_under hash (link_at links place) ≡ true → place < length links
-is_under-within hash place links under = elim (cases_lt place (length links)) [ inl lt ↦ lt | inr le ↦ absurd (let past = past_step hash place links le in let wrong : ⊥ = cc in wrong) ]
+is_under-within hash place links under = elim (cases_lt place (length links)) [ inl lt ↦ lt | inr le ↦ absurd (let past = past_under hash place links le in let wrong : ⊥ = cc in wrong) ]
 
 -- a walk under a hash is at a link, which is the newest of those up to it: that comes next, and then the older ones
 pub record IsStep (hash : ℕ) (links : List Link) (at : ℕ) (link : Link) : Type 0 where

@@ -4,3 +4,7 @@ pub mod PlaceLemmas
 pub mod LinkLemmas
 -- the numbers of one hash, newest first
 pub mod BucketLemmas
+-- one link is unlinked
+pub mod CutLemmas
+-- a bucket is cleaned
+pub mod CleanLemmas
