@@ -1,13 +1,14 @@
 -- A bucket is cleaned, link by link.
 use Rattle.std.proofs.Common.{◌≡◌, inl, inr, ℕ, zero, suc, ◌+◌, ◌-◌, ◌<◌, ◌≤◌, List, [], ◌∷◌, Bool, true, false, ◌&&◌, ◌||◌, ◌==◌, cond, get_or, length, map, not, refl, ap, subst, sym, ◌∙◌, arith}
 use Rattle.std.specs.List.{filter}
-use Rattle.std.proofs.lemmas.Bool.{cases_eq, cases_lt, eqb-true, ne_eqb}
+use Rattle.std.proofs.lemmas.Bool.{cases_eq, cases_lt, eqb-true}
+use Rattle.std.proofs.lemmas.List.{get_or_default}
 use Rattle.hash_buckets.specs.Buckets.{stays}
 use Rattle.hash_buckets.specs.Links.{AreLinked, entries_of, entry_of, first_after, is_linked, is_under, last_place, link_at, newest, no_link, with_next, with_next_after}
 use Rattle.hash_buckets.specs.declared.links.Link.{Link}
-use Rattle.hash_buckets.proofs.BucketLemmas.{both, past_under}
+use Rattle.hash_buckets.proofs.BucketLemmas.{both, is_under-within, past_under}
 use Rattle.hash_buckets.proofs.CutLemmas.{IsCut, IsCutOut, IsWalking, cut_out, cut_walks, end_of, under_walk}
-use Rattle.hash_buckets.proofs.PlaceLemmas.{last_place-again, last_place-here, last_place-same, last_place-skips, last_place-within}
+use Rattle.hash_buckets.proofs.PlaceLemmas.{last_place-here, last_place-passes, last_place-same, last_place-skips, last_place-within}
 
 -- from a place on, the links that don't stay aren't linked any more, and all others are as before
 pub record AreCleaned (hash : ℕ) (lives : ℕ → Bool) (from : ℕ) (old new : List Link) : Type 0 where
@@ -42,7 +43,7 @@ pub record IsCleaning (hash : ℕ) (lives : ℕ → Bool) (old links : List Link
 -- it begins
 pub cleaning_begins : (hash : ℕ) (lives : ℕ → Bool) (links : List Link) (head : ℕ) → AreLinked links → head ≡ newest hash links (length links) → IsCleaning hash lives links links head 0 head
 cleaning_begins hash lives links head linked is = record {
-  walking = record { linked = linked; first = is; kept = refl; at = is };
+  walking = record { linked = linked; first_is = is; kept_is = refl; at_is = is };
   cleaned = record {
     long = refl;
     entry = λ i. refl;
@@ -52,6 +53,13 @@ cleaning_begins hash lives links head linked is = record {
       | inr past ↦ other_stays hash lives (link_at links i) (past_under hash i links past) ];
   };
 }
+
+-- what a link names as the next one
+next_of : (hash : ℕ) (links : List Link) (p : ℕ) → AreLinked links → is_under hash (link_at links p) ≡ true → (link_at links p).next ≡ newest hash links p
+next_of hash links p linked under =
+    let parts = both ((link_at links p).hash == hash) (is_linked (link_at links p)) under in
+    linked.older p parts.1 ∙ ap (λ (h : ℕ). newest h links p) (eqb-true (link_at links p).hash hash parts.0)
+
 -- a number that lives stays
 stays_step : (same linked lives : Bool) → lives ≡ true → linked ≡ (linked && (not same || lives))
 stays_step true true lives is = sym is
@@ -63,11 +71,10 @@ pub cleaning_keeps : (hash : ℕ) (lives : ℕ → Bool) (old links : List Link)
 cleaning_keeps hash lives old links first kept p cleaning living =
     let t : ℕ → Bool = λ (n : ℕ). is_under hash (link_at links n) in
     let under = under_walk hash p first kept links cleaning.walking in
-    let parts = both ((link_at links p).hash == hash) (is_linked (link_at links p)) under in
-    let next : (link_at links p).next ≡ newest hash links p = cleaning.walking.linked.older p parts.1 ∙ ap (λ (h : ℕ). newest h links p) (eqb-true (link_at links p).hash hash parts.0) in
+    let next = next_of hash links p cleaning.walking.linked under in
     let low = last_place-within t p in
     record {
-      walking = record { linked = cleaning.walking.linked; first = cleaning.walking.first; kept = last_place-here t p under; at = next };
+      walking = record { linked = cleaning.walking.linked; first_is = cleaning.walking.first_is; kept_is = last_place-here t p under; at_is = next };
       cleaned = record {
         long = cleaning.cleaned.long;
         entry = cleaning.cleaned.entry;
@@ -147,3 +154,50 @@ cleaned_others hash lives old new cleaned h differs =
     ∙ ap (λ (e : ℕ × ℕ). (e.0 == h) && (is_linked (link_at old i) && stays hash lives (entry_of (link_at old i)))) (cleaned.entry i)
     ∙ apart_step ((link_at old i).hash == h) ((link_at old i).hash == hash) (is_linked (link_at old i)) (lives (link_at old i).number) (λ same. ap (λ (x : ℕ). x == hash) (eqb-true (link_at old i).hash h same) ∙ differs))
     ∙ ap (newest h old) cleaned.long
+
+-- the same at an `at` that isn't 0, and a link that was read before it
+read_at : (links : List Link) (p : ℕ) (past : Link) → p < length links → get_or links (suc p - 1) past ≡ link_at links p
+read_at links p past lt = ap (λ (q : ℕ). get_or links q past) (let e : suc p - 1 ≡ p = omega arith in e) ∙ get_or_default links p past no_link lt
+
+pub record IsWithin (links : List Link) (kept at : ℕ) (link : Link) : Type 0 where
+  pub at_fits : at ≤ length links
+  pub kept_fits : kept ≤ length links
+  pub lower : link.next < at
+
+kept_within : (hash : ℕ) (links : List Link) (kept : ℕ) → newest hash links kept ≡ kept → kept ≤ length links
+kept_within hash links zero is = omega arith
+kept_within hash links (suc j) is = omega (arith, is_under-within hash j links (last_place-passes (λ (n : ℕ). is_under hash (link_at links n)) (suc j) j is))
+
+pub cleaning_within : (hash : ℕ) (lives : ℕ → Bool) (old links : List Link) (first kept at : ℕ) (past : Link) → IsCleaning hash lives old links first kept at → (at ≡ 0 → ⊥) → IsWithin links kept at (get_or links (at - 1) past)
+cleaning_within hash lives old links first kept zero past cleaning some = absurd (some refl)
+cleaning_within hash lives old links first kept (suc p) past cleaning some =
+    let under = under_walk hash p first kept links cleaning.walking in
+    let within = is_under-within hash p links under in
+    let next = next_of hash links p cleaning.walking.linked under in
+    subst (IsWithin links kept (suc p)) (sym (read_at links p past within)) (record {
+      at_fits = omega (arith, within);
+      kept_fits = kept_within hash links kept cleaning.walking.kept_is;
+      lower = omega (arith, next, last_place-within (λ (n : ℕ). is_under hash (link_at links n)) p);
+    })
+
+pub cleaning_keeps_at : (hash : ℕ) (lives : ℕ → Bool) (old links : List Link) (first kept at : ℕ) (past : Link) → IsCleaning hash lives old links first kept at → (at ≡ 0 → ⊥) → lives (get_or links (at - 1) past).number ≡ true → IsCleaning hash lives old links first at (get_or links (at - 1) past).next
+cleaning_keeps_at hash lives old links first kept zero past cleaning some = absurd (some refl)
+cleaning_keeps_at hash lives old links first kept (suc p) past cleaning some =
+    let within = is_under-within hash p links (under_walk hash p first kept links cleaning.walking) in
+    subst (λ (l : Link). lives l.number ≡ true → IsCleaning hash lives old links first (suc p) l.next) (sym (read_at links p past within)) (cleaning_keeps hash lives old links first kept p cleaning)
+
+pub cleaning_cuts_at : (hash : ℕ) (lives : ℕ → Bool) (old links after : List Link) (first kept at : ℕ) (past : Link) → IsCleaning hash lives old links first kept at → (at ≡ 0 → ⊥) → lives (get_or links (at - 1) past).number ≡ false → after ≡ with_next_after (with_next links (at - 1) 4294967295) kept (get_or links (at - 1) past).next → IsCleaning hash lives old after (first_after kept first (get_or links (at - 1) past).next) kept (get_or links (at - 1) past).next
+cleaning_cuts_at hash lives old links after first kept zero past cleaning some = absurd (some refl)
+cleaning_cuts_at hash lives old links after first kept (suc p) past cleaning some =
+    let within = is_under-within hash p links (under_walk hash p first kept links cleaning.walking) in
+    let here : suc p - 1 ≡ p = omega arith in
+    subst (λ (q : ℕ). lives (get_or links (suc p - 1) past).number ≡ false → after ≡ with_next_after (with_next links q 4294967295) kept (get_or links (suc p - 1) past).next → IsCleaning hash lives old after (first_after kept first (get_or links (suc p - 1) past).next) kept (get_or links (suc p - 1) past).next) (sym here)
+    (subst (λ (l : Link). lives l.number ≡ false → after ≡ with_next_after (with_next links p 4294967295) kept l.next → IsCleaning hash lives old after (first_after kept first l.next) kept l.next) (sym (read_at links p past within)) (cleaning_cuts hash lives old links after first kept p cleaning))
+
+-- it is at the end
+pub cleaning_done : (hash : ℕ) (lives : ℕ → Bool) (old links : List Link) (first kept at : ℕ) → IsCleaning hash lives old links first kept at → at ≡ 0 → AreCleaned hash lives 0 old links
+cleaning_done hash lives old links first kept at cleaning done = subst (λ (n : ℕ). AreCleaned hash lives n old links) done cleaning.cleaned
+
+-- where nothing is under a hash, all stays
+pub none_to_clean : (hash : ℕ) (lives : ℕ → Bool) (links : List Link) → AreLinked links → newest hash links (length links) ≡ 0 → entries_of links ≡ filter (stays hash lives) (entries_of links)
+none_to_clean hash lives links linked none = cleaned_entries hash lives links links (cleaning_begins hash lives links 0 linked (sym none)).cleaned

@@ -68,9 +68,9 @@ end_of (suc place) links = place
 
 pub record IsWalking (hash : ℕ) (links : List Link) (first kept at : ℕ) : Type 0 where
   pub linked : AreLinked links
-  pub first : first ≡ newest hash links (length links)
-  pub kept : newest hash links kept ≡ kept
-  pub at : at ≡ newest hash links (end_of kept links)
+  pub first_is : first ≡ newest hash links (length links)
+  pub kept_is : newest hash links kept ≡ kept
+  pub at_is : at ≡ newest hash links (end_of kept links)
 
 -- a cut leaves the tests of other hashes, and with them their newest links
 other_hash : (p hash other : ℕ) (old new : List Link) → IsCut p old new → is_under hash (link_at old p) ≡ true → (other ≡ hash → ⊥) → (n : ℕ) → newest other new n ≡ newest other old n
@@ -98,12 +98,12 @@ only_kept hash p first zero old new out i under leads =
     let within = is_under-within hash i old under in
     let after = last_place-after t (length old) i under within in
     let low = last_place-within t i in
-    absurd (let wrong : ⊥ = omega (arith, after, out.walking.at, low, leads) in wrong)
+    absurd (let wrong : ⊥ = omega (arith, after, out.walking.at_is, low, leads) in wrong)
 only_kept hash p first (suc j) old new out i under leads =
     let t : ℕ → Bool = λ (n : ℕ). is_under hash (link_at old n) in
     elim (cases_eq i j) [ inl same ↦ ap suc same | inr other ↦ elim (cases_lt i j) [
-        inl lt ↦ absurd (let after = last_place-after t j i under lt in let low = last_place-within t i in let wrong : ⊥ = omega (arith, after, out.walking.at, low, leads) in wrong)
-        | inr le ↦ absurd (let there : t j ≡ true = last_place-passes t (suc j) j out.walking.kept in let after = last_place-after t i j there (omega (arith, le, other)) in let low = last_place-within t j in let wrong : ⊥ = omega (arith, after, out.walking.at, low, leads) in wrong) ] ]
+        inl lt ↦ absurd (let after = last_place-after t j i under lt in let low = last_place-within t i in let wrong : ⊥ = omega (arith, after, out.walking.at_is, low, leads) in wrong)
+        | inr le ↦ absurd (let there : t j ≡ true = last_place-passes t (suc j) j out.walking.kept_is in let after = last_place-after t i j there (omega (arith, le, other)) in let low = last_place-within t j in let wrong : ⊥ = omega (arith, after, out.walking.at_is, low, leads) in wrong) ] ]
 
 -- the links are still right
 hash_of : (p : ℕ) (old new : List Link) → IsCut p old new → (i : ℕ) → (link_at new i).hash ≡ (link_at old i).hash
@@ -111,9 +111,9 @@ hash_of p old new cut i = ap (λ (e : ℕ × ℕ). e.0) (cut.entry i)
 
 newest_of_kept : (hash p first kept : ℕ) (old new : List Link) → IsCutOut hash p first kept old new → newest hash new (end_of kept new) ≡ newest hash old p
 newest_of_kept hash p first zero old new out =
-    ap (newest hash new) out.cut.long ∙ last_place-moves (λ (i : ℕ). is_under hash (link_at new i)) (λ (i : ℕ). is_under hash (link_at old i)) p (length old) (cut_tests p old new out.cut hash) (sym out.walking.at)
+    ap (newest hash new) out.cut.long ∙ last_place-moves (λ (i : ℕ). is_under hash (link_at new i)) (λ (i : ℕ). is_under hash (link_at old i)) p (length old) (cut_tests p old new out.cut hash) (sym out.walking.at_is)
 newest_of_kept hash p first (suc j) old new out =
-    last_place-moves (λ (i : ℕ). is_under hash (link_at new i)) (λ (i : ℕ). is_under hash (link_at old i)) p j (cut_tests p old new out.cut hash) (sym out.walking.at)
+    last_place-moves (λ (i : ℕ). is_under hash (link_at new i)) (λ (i : ℕ). is_under hash (link_at old i)) p j (cut_tests p old new out.cut hash) (sym out.walking.at_is)
 
 cut_older : (hash p first kept : ℕ) (old new : List Link) → IsCutOut hash p first kept old new → (i : ℕ) → is_linked (link_at new i) ≡ true → (link_at new i).next ≡ newest (link_at new i).hash new i
 cut_older hash p first kept old new out i linked =
@@ -139,7 +139,7 @@ cut_older hash p first kept old new out i linked =
                     ∙ sym (last_place-stays s t p i (cut_tests p old new out.cut hash) (λ leads. not_kept (only_kept hash p first kept old new out i under leads)))
                     ∙ sym goal_at ]
         | inr differs ↦
-            let not_kept : suc i ≡ kept → ⊥ = λ (e : suc i ≡ kept). differs (let under = last_place-passes t (suc i) i (subst (λ (k : ℕ). newest hash old k ≡ k) (sym e) out.walking.kept) in eqb-true (link_at old i).hash hash (both ((link_at old i).hash == hash) (is_linked (link_at old i)) under).0) in
+            let not_kept : suc i ≡ kept → ⊥ = λ (e : suc i ≡ kept). differs (let under = last_place-passes t (suc i) i (subst (λ (k : ℕ). newest hash old k ≡ k) (sym e) out.walking.kept_is) in eqb-true (link_at old i).hash hash (both ((link_at old i).hash == hash) (is_linked (link_at old i)) under).0) in
             ap (λ (l : Link). l.next) (out.same i not_p not_kept)
             ∙ out.walking.linked.older i was
             ∙ sym (other_hash p hash (link_at old i).hash old new out.cut out.under differs i)
@@ -150,11 +150,11 @@ cut_first hash p first zero old new out = out.next ∙ sym (newest_of_kept hash 
 cut_first hash p first (suc j) old new out =
     let s : ℕ → Bool = λ (n : ℕ). is_under hash (link_at new n) in
     let t : ℕ → Bool = λ (n : ℕ). is_under hash (link_at old n) in
-    let there : t j ≡ true = last_place-passes t (suc j) j out.walking.kept in
+    let there : t j ≡ true = last_place-passes t (suc j) j out.walking.kept_is in
     let after = last_place-after t (length old) j there (is_under-within hash j old there) in
     let low = last_place-within t j in
-    out.walking.first
-    ∙ sym (last_place-stays s t p (length old) (cut_tests p old new out.cut hash) (λ is. let wrong : ⊥ = omega (arith, is, after, low, out.walking.at) in wrong))
+    out.walking.first_is
+    ∙ sym (last_place-stays s t p (length old) (cut_tests p old new out.cut hash) (λ is. let wrong : ⊥ = omega (arith, is, after, low, out.walking.at_is) in wrong))
     ∙ ap (newest hash new) (sym out.cut.long)
 
 cut_kept : (hash p first kept : ℕ) (old new : List Link) → IsCutOut hash p first kept old new → newest hash new kept ≡ kept
@@ -162,17 +162,17 @@ cut_kept hash p first zero old new out = refl
 cut_kept hash p first (suc j) old new out =
     let s : ℕ → Bool = λ (n : ℕ). is_under hash (link_at new n) in
     let t : ℕ → Bool = λ (n : ℕ). is_under hash (link_at old n) in
-    let there : t j ≡ true = last_place-passes t (suc j) j out.walking.kept in
+    let there : t j ≡ true = last_place-passes t (suc j) j out.walking.kept_is in
     let low = last_place-within t j in
-    last_place-here s j ((cut_tests p old new out.cut hash).others j (λ e. let wrong : ⊥ = omega (arith, e, low, out.walking.at) in wrong) ∙ there)
+    last_place-here s j ((cut_tests p old new out.cut hash).others j (λ e. let wrong : ⊥ = omega (arith, e, low, out.walking.at_is) in wrong) ∙ there)
 
 -- the walk goes on past the link that was cut out
 pub cut_walks : (hash p first kept : ℕ) (old new : List Link) → IsCutOut hash p first kept old new → IsWalking hash new (first_after kept first (link_at old p).next) kept (link_at old p).next
 cut_walks hash p first kept old new out = record {
   linked = record { few = omega (arith, out.walking.linked.few, out.cut.long); older = cut_older hash p first kept old new out };
-  first = cut_first hash p first kept old new out;
-  kept = cut_kept hash p first kept old new out;
-  at = out.next ∙ sym (newest_of_kept hash p first kept old new out);
+  first_is = cut_first hash p first kept old new out;
+  kept_is = cut_kept hash p first kept old new out;
+  at_is = out.next ∙ sym (newest_of_kept hash p first kept old new out);
 }
 
 -- the code cuts it out
@@ -183,7 +183,7 @@ next_less hash p first kept old walking under =
     (next, omega (arith, next, last_place-within (λ (n : ℕ). is_under hash (link_at old n)) p, is_under-within hash p old under, walking.linked.few))
 
 pub under_walk : (hash p first kept : ℕ) (old : List Link) → IsWalking hash old first kept (suc p) → is_under hash (link_at old p) ≡ true
-under_walk hash p first kept old walking = last_place-passes (λ (n : ℕ). is_under hash (link_at old n)) (end_of kept old) p (sym walking.at)
+under_walk hash p first kept old walking = last_place-passes (λ (n : ℕ). is_under hash (link_at old n)) (end_of kept old) p (sym walking.at_is)
 
 pub cut_out : (hash p first kept : ℕ) (old new : List Link) → IsWalking hash old first kept (suc p) → new ≡ with_next_after (with_next old p 4294967295) kept (link_at old p).next → IsCutOut hash p first kept old new
 cut_out hash p first zero old new walking is =
@@ -204,9 +204,9 @@ cut_out hash p first (suc j) old new walking is =
     let middle : List Link = with_next old p 4294967295 in
     let next : ℕ = (link_at old p).next in
     let one = cut_one old p within in
-    let there : t j ≡ true = last_place-passes t (suc j) j walking.kept in
+    let there : t j ≡ true = last_place-passes t (suc j) j walking.kept_is in
     let low = last_place-within t j in
-    let apart : j ≡ p → ⊥ = λ (e : j ≡ p). let wrong : ⊥ = omega (arith, e, low, walking.at) in wrong in
+    let apart : j ≡ p → ⊥ = λ (e : j ≡ p). let wrong : ⊥ = omega (arith, e, low, walking.at_is) in wrong in
     let less = next_less hash p first (suc j) old walking under in
     let linked : is_linked (link_at middle j) ≡ true = one.others j apart ∙ (both ((link_at old j).hash == hash) (is_linked (link_at old j)) there).1 in
     let inside : j < length middle = omega (arith, one.long, is_under-within hash j old there) in

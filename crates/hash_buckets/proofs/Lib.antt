@@ -8,3 +8,5 @@ pub mod BucketLemmas
 pub mod CutLemmas
 -- a bucket is cleaned
 pub mod CleanLemmas
+-- what lives is filed anew
+pub mod PackLemmas

@@ -1,6 +1,6 @@
 //! Numbers under hashes, in one arena of links for all.
 
-ghost use Rattle.std.specs.Prelude.{◌≡◌, ◌≤◌, [], ◌∷◌, ◌++◌, IfOk, OnErr, OnOk, filter, length, reverse};
+ghost use Rattle.std.specs.Prelude.{◌≡◌, ◌+◌, ◌≤◌, [], ◌∷◌, ◌++◌, IfOk, OnErr, OnOk, filter, length, reverse};
 ghost use Rattle.hash_buckets.specs.Buckets.{numbers_of, stays};
 ghost use Rattle.hash_buckets.specs.Links.{entries_of};
 
@@ -85,6 +85,7 @@ impl Buckets {
     /// also fails where there are 2^32 - 1 links.
     pub fn push(&mut self, hash: u64, number: u32) -> Result<(), OutOfMemory>
         ensures ok { OnOk result (self.new.entries ≡ self.old.entries ++ (hash, number) ∷ []) }
+        ensures links { OnOk result (self.new.links ≡ self.old.links + 1) }
         ensures err { OnErr result (self.new ≡ self.old) }
     {
         let place = self.links.len();
