@@ -6,6 +6,7 @@ use Rattle.std.proofs.lemmas.List.{get_or_default}
 use Rattle.hash_buckets.specs.Buckets.{stays}
 use Rattle.hash_buckets.specs.Links.{AreLinked, entries_of, entry_of, first_after, is_linked, is_under, last_place, link_at, newest, no_link, with_next, with_next_after}
 use Rattle.hash_buckets.specs.declared.links.Link.{Link}
+use Rattle.hash_buckets.specs.declared.links.TheConstants.{UNLINKED}
 use Rattle.hash_buckets.proofs.BucketLemmas.{both, is_under-within, past_under}
 use Rattle.hash_buckets.proofs.CutLemmas.{IsCut, IsCutOut, IsWalking, cut_out, cut_walks, end_of, under_walk}
 use Rattle.hash_buckets.proofs.PlaceLemmas.{last_place-here, last_place-passes, last_place-same, last_place-skips, last_place-within}
@@ -93,7 +94,7 @@ goes_step : (linked same lives : Bool) → same ≡ true → lives ≡ false →
 goes_step true same lives is dead = ap (λ (b : Bool). b || false) (sym (ap not is)) ∙ ap (λ (b : Bool). not same || b) (sym dead)
 goes_step false same lives is dead = refl
 
-pub cleaning_cuts : (hash : ℕ) (lives : ℕ → Bool) (old links after : List Link) (first kept p : ℕ) → IsCleaning hash lives old links first kept (suc p) → lives (link_at links p).number ≡ false → after ≡ with_next_after (with_next links p 4294967295) kept (link_at links p).next → IsCleaning hash lives old after (first_after kept first (link_at links p).next) kept (link_at links p).next
+pub cleaning_cuts : (hash : ℕ) (lives : ℕ → Bool) (old links after : List Link) (first kept p : ℕ) → IsCleaning hash lives old links first kept (suc p) → lives (link_at links p).number ≡ false → after ≡ with_next_after (with_next links p UNLINKED) kept (link_at links p).next → IsCleaning hash lives old after (first_after kept first (link_at links p).next) kept (link_at links p).next
 cleaning_cuts hash lives old links after first kept p cleaning dead is =
     let t : ℕ → Bool = λ (n : ℕ). is_under hash (link_at links n) in
     let out = cut_out hash p first kept links after cleaning.walking is in
@@ -186,13 +187,13 @@ cleaning_keeps_at hash lives old links first kept (suc p) past cleaning some =
     let within = is_under-within hash p links (under_walk hash p first kept links cleaning.walking) in
     subst (λ (l : Link). lives l.number ≡ true → IsCleaning hash lives old links first (suc p) l.next) (sym (read_at links p past within)) (cleaning_keeps hash lives old links first kept p cleaning)
 
-pub cleaning_cuts_at : (hash : ℕ) (lives : ℕ → Bool) (old links after : List Link) (first kept at : ℕ) (past : Link) → IsCleaning hash lives old links first kept at → (at ≡ 0 → ⊥) → lives (get_or links (at - 1) past).number ≡ false → after ≡ with_next_after (with_next links (at - 1) 4294967295) kept (get_or links (at - 1) past).next → IsCleaning hash lives old after (first_after kept first (get_or links (at - 1) past).next) kept (get_or links (at - 1) past).next
+pub cleaning_cuts_at : (hash : ℕ) (lives : ℕ → Bool) (old links after : List Link) (first kept at : ℕ) (past : Link) → IsCleaning hash lives old links first kept at → (at ≡ 0 → ⊥) → lives (get_or links (at - 1) past).number ≡ false → after ≡ with_next_after (with_next links (at - 1) UNLINKED) kept (get_or links (at - 1) past).next → IsCleaning hash lives old after (first_after kept first (get_or links (at - 1) past).next) kept (get_or links (at - 1) past).next
 cleaning_cuts_at hash lives old links after first kept zero past cleaning some = absurd (some refl)
 cleaning_cuts_at hash lives old links after first kept (suc p) past cleaning some =
     let within = is_under-within hash p links (under_walk hash p first kept links cleaning.walking) in
     let here : suc p - 1 ≡ p = omega arith in
-    subst (λ (q : ℕ). lives (get_or links (suc p - 1) past).number ≡ false → after ≡ with_next_after (with_next links q 4294967295) kept (get_or links (suc p - 1) past).next → IsCleaning hash lives old after (first_after kept first (get_or links (suc p - 1) past).next) kept (get_or links (suc p - 1) past).next) (sym here)
-    (subst (λ (l : Link). lives l.number ≡ false → after ≡ with_next_after (with_next links p 4294967295) kept l.next → IsCleaning hash lives old after (first_after kept first l.next) kept l.next) (sym (read_at links p past within)) (cleaning_cuts hash lives old links after first kept p cleaning))
+    subst (λ (q : ℕ). lives (get_or links (suc p - 1) past).number ≡ false → after ≡ with_next_after (with_next links q UNLINKED) kept (get_or links (suc p - 1) past).next → IsCleaning hash lives old after (first_after kept first (get_or links (suc p - 1) past).next) kept (get_or links (suc p - 1) past).next) (sym here)
+    (subst (λ (l : Link). lives l.number ≡ false → after ≡ with_next_after (with_next links p UNLINKED) kept l.next → IsCleaning hash lives old after (first_after kept first l.next) kept l.next) (sym (read_at links p past within)) (cleaning_cuts hash lives old links after first kept p cleaning))
 
 -- it is at the end
 pub cleaning_done : (hash : ℕ) (lives : ℕ → Bool) (old links : List Link) (first kept at : ℕ) → IsCleaning hash lives old links first kept at → at ≡ 0 → AreCleaned hash lives 0 old links

@@ -4,6 +4,7 @@ use Rattle.std.proofs.lemmas.Bool.{cases_eq, cases_lt, eq-eqb, eqb-true}
 use Rattle.std.proofs.lemmas.List.{get_or-set_other, get_or-set_same, length-set}
 use Rattle.hash_buckets.specs.Links.{AreLinked, entry_of, first_after, is_linked, is_under, last_place, link_at, newest, no_link, with_next, with_next_after}
 use Rattle.hash_buckets.specs.declared.links.Link.{Link}
+use Rattle.hash_buckets.specs.declared.links.TheConstants.{UNLINKED}
 use Rattle.hash_buckets.proofs.BucketLemmas.{both, is_under-within}
 use Rattle.hash_buckets.proofs.LinkLemmas.{linked_if_less}
 use Rattle.hash_buckets.proofs.PlaceLemmas.{IsWithout, last_place-after, last_place-again, last_place-here, last_place-moves, last_place-passes, last_place-same, last_place-skips, last_place-stays, last_place-within}
@@ -27,20 +28,20 @@ entry-with_next links p next i lt = elim (cases_eq i p) [
     inl same ↦ subst (λ (q : ℕ). entry_of (link_at (with_next links p next) q) ≡ entry_of (link_at links q)) (sym same) (ap entry_of (with_next-same links p next lt))
     | inr other ↦ ap entry_of (with_next-other links p next i other) ]
 
-linked-with_next : (links : List Link) (p next i : ℕ) → p < length links → next < 4294967295 → is_linked (link_at links p) ≡ true → is_linked (link_at (with_next links p next) i) ≡ is_linked (link_at links i)
+linked-with_next : (links : List Link) (p next i : ℕ) → p < length links → next < UNLINKED → is_linked (link_at links p) ≡ true → is_linked (link_at (with_next links p next) i) ≡ is_linked (link_at links i)
 linked-with_next links p next i lt less linked = elim (cases_eq i p) [
     inl same ↦ subst (λ (q : ℕ). is_linked (link_at (with_next links p next) q) ≡ is_linked (link_at links q)) (sym same) (ap is_linked (with_next-same links p next lt) ∙ linked_if_less next less ∙ sym linked)
     | inr other ↦ ap is_linked (with_next-other links p next i other) ]
 
-cut_one : (links : List Link) (p : ℕ) → p < length links → IsCut p links (with_next links p 4294967295)
+cut_one : (links : List Link) (p : ℕ) → p < length links → IsCut p links (with_next links p UNLINKED)
 cut_one links p lt = record {
-  long = length-set links p (record (link_at links p) { next = 4294967295 });
-  gone = ap is_linked (with_next-same links p 4294967295 lt);
-  others = λ i other. ap is_linked (with_next-other links p 4294967295 i other);
-  entry = λ i. entry-with_next links p 4294967295 i lt;
+  long = length-set links p (record (link_at links p) { next = UNLINKED });
+  gone = ap is_linked (with_next-same links p UNLINKED lt);
+  others = λ i other. ap is_linked (with_next-other links p UNLINKED i other);
+  entry = λ i. entry-with_next links p UNLINKED i lt;
 }
 
-cut_after : (links middle : List Link) (p j next : ℕ) → IsCut p links middle → j < length middle → next < 4294967295 → is_linked (link_at middle j) ≡ true → IsCut p links (with_next middle j next)
+cut_after : (links middle : List Link) (p j next : ℕ) → IsCut p links middle → j < length middle → next < UNLINKED → is_linked (link_at middle j) ≡ true → IsCut p links (with_next middle j next)
 cut_after links middle p j next cut lt less linked = record {
   long = length-set middle j (record (link_at middle j) { next = next }) ∙ cut.long;
   gone = linked-with_next middle j next p lt less linked ∙ cut.gone;
@@ -176,7 +177,7 @@ cut_walks hash p first kept old new out = record {
 }
 
 -- the code cuts it out
-next_less : (hash p first kept : ℕ) (old : List Link) → IsWalking hash old first kept (suc p) → is_under hash (link_at old p) ≡ true → ((link_at old p).next ≡ newest hash old p) × ((link_at old p).next < 4294967295)
+next_less : (hash p first kept : ℕ) (old : List Link) → IsWalking hash old first kept (suc p) → is_under hash (link_at old p) ≡ true → ((link_at old p).next ≡ newest hash old p) × ((link_at old p).next < UNLINKED)
 next_less hash p first kept old walking under =
     let parts = both ((link_at old p).hash == hash) (is_linked (link_at old p)) under in
     let next : (link_at old p).next ≡ newest hash old p = walking.linked.older p parts.1 ∙ ap (λ (h : ℕ). newest h old p) (eqb-true (link_at old p).hash hash parts.0) in
@@ -185,14 +186,14 @@ next_less hash p first kept old walking under =
 pub under_walk : (hash p first kept : ℕ) (old : List Link) → IsWalking hash old first kept (suc p) → is_under hash (link_at old p) ≡ true
 under_walk hash p first kept old walking = last_place-passes (λ (n : ℕ). is_under hash (link_at old n)) (end_of kept old) p (sym walking.at_is)
 
-pub cut_out : (hash p first kept : ℕ) (old new : List Link) → IsWalking hash old first kept (suc p) → new ≡ with_next_after (with_next old p 4294967295) kept (link_at old p).next → IsCutOut hash p first kept old new
+pub cut_out : (hash p first kept : ℕ) (old new : List Link) → IsWalking hash old first kept (suc p) → new ≡ with_next_after (with_next old p UNLINKED) kept (link_at old p).next → IsCutOut hash p first kept old new
 cut_out hash p first zero old new walking is =
     let under = under_walk hash p first zero old walking in
     let within = is_under-within hash p old under in
     subst (IsCutOut hash p first zero old) (sym is) (record {
       cut = cut_one old p within;
       next = (next_less hash p first zero old walking under).0;
-      same = λ i other _. with_next-other old p 4294967295 i other;
+      same = λ i other _. with_next-other old p UNLINKED i other;
       led = λ i e. absurd (let wrong : ⊥ = omega (arith, e) in wrong);
       under = under;
       walking = walking;
@@ -201,7 +202,7 @@ cut_out hash p first (suc j) old new walking is =
     let t : ℕ → Bool = λ (n : ℕ). is_under hash (link_at old n) in
     let under = under_walk hash p first (suc j) old walking in
     let within = is_under-within hash p old under in
-    let middle : List Link = with_next old p 4294967295 in
+    let middle : List Link = with_next old p UNLINKED in
     let next : ℕ = (link_at old p).next in
     let one = cut_one old p within in
     let there : t j ≡ true = last_place-passes t (suc j) j walking.kept_is in
@@ -213,7 +214,7 @@ cut_out hash p first (suc j) old new walking is =
     subst (IsCutOut hash p first (suc j) old) (sym is) (record {
       cut = cut_after old middle p j next one inside less.1 linked;
       next = less.0;
-      same = λ i other not_kept. with_next-other middle j next i (λ e. not_kept (ap suc e)) ∙ with_next-other old p 4294967295 i other;
+      same = λ i other not_kept. with_next-other middle j next i (λ e. not_kept (ap suc e)) ∙ with_next-other old p UNLINKED i other;
       led = λ i e. ap (λ (q : ℕ). (link_at (with_next middle j next) q).next) (let same : i ≡ j = omega (arith, e) in same) ∙ ap (λ (l : Link). l.next) (with_next-same middle j next inside);
       under = under;
       walking = walking;

@@ -8,5 +8,3 @@ pub mod BucketLemmas
 pub mod CutLemmas
 -- a bucket is cleaned
 pub mod CleanLemmas
--- what lives is filed anew
-pub mod PackLemmas

@@ -1,30 +1,36 @@
 -- What a new link changes.
-use Rattle.std.proofs.Common.{◌≡◌, inl, inr, ℕ, zero, suc, ◌+◌, ◌<◌, ◌≤◌, ◌^◌, List, [], ◌∷◌, ◌++◌, Bool, true, false, ◌&&◌, ◌==◌, cond, get_or, length, map, nat_eq, not, Option, None, Some, refl, ap, subst, sym, ◌∙◌, arith}
+use Rattle.std.proofs.Common.{◌≡◌, inl, inr, ℕ, zero, suc, ◌+◌, ◌<◌, ◌≤◌, ◌^◌, List, [], ◌∷◌, ◌++◌, Bool, true, false, ◌&&◌, ◌==◌, cond, get_or, length, map, nat_eq, not, Option, Some, refl, reverse, ap, subst, sym, ◌∙◌, arith}
 use Rattle.std.specs.List.{filter}
 use Rattle.std.specs.Map.{lookup}
 use Rattle.std.specs.Option.{unwrap_or}
 use Rattle.std.proofs.lemmas.Bool.{cases_eq, cases_lt, ne_eqb}
-use Rattle.std.proofs.lemmas.List.{get_or_append_left, get_or_past, get_or_push, length-map, length_push}
+use Rattle.std.proofs.lemmas.List.{get_or_append_left, get_or_past, get_or_push, length-map, length_push, length-reverse}
+use Rattle.hash_buckets.specs.Buckets.{numbers_of}
 use Rattle.hash_buckets.specs.Links.{AreKnown, AreLinked, entries_of, entry_of, is_linked, is_under, last_place, link_at, newest, no_link}
 use Rattle.hash_buckets.specs.declared.links.Link.{Link}
+use Rattle.hash_buckets.specs.declared.links.TheConstants.{UNLINKED}
 use Rattle.hash_buckets.proofs.BucketLemmas.{entries_of-append}
 use Rattle.hash_buckets.proofs.PlaceLemmas.{last_place-same, last_place-within}
 
--- no more is filed than there are links
-fewer_step : (b : Bool) (link : Link) (links : List Link) (n : ℕ) → length links ≤ n → length (cond b (link ∷ links) links) ≤ suc n
-fewer_step true link links n le = omega (arith, le)
-fewer_step false link links n le = omega (arith, le)
+-- no more is filed than there are links, and no more is under a hash than is filed
+fewer_step : {X : Type 0} (b : Bool) (x : X) (xs : List X) (n : ℕ) → length xs ≤ n → length (cond b (x ∷ xs) xs) ≤ suc n
+fewer_step true x xs n le = omega (arith, le)
+fewer_step false x xs n le = omega (arith, le)
 
-fewer_linked : (links : List Link) → length (filter is_linked links) ≤ length links
-fewer_linked [] = omega arith
-fewer_linked (link ∷ links) = fewer_step (is_linked link) link (filter is_linked links) (length links) (fewer_linked links)
+length-filter-le : {X : Type 0} (test : X → Bool) (xs : List X) → length (filter test xs) ≤ length xs
+length-filter-le test [] = omega arith
+length-filter-le test (x ∷ xs) = fewer_step (test x) x (filter test xs) (length xs) (length-filter-le test xs)
 
 pub length-entries_of : (links : List Link) → length (entries_of links) ≤ length links
-length-entries_of links = omega (arith, length-map (filter is_linked links) entry_of, fewer_linked links)
+length-entries_of links = omega (arith, length-map (filter is_linked links) entry_of, length-filter-le is_linked links)
+
+pub length-numbers_of : (entries : List (ℕ × ℕ)) (hash : ℕ) → length (reverse (numbers_of entries hash)) ≤ length entries
+length-numbers_of entries hash =
+    omega (arith, length-reverse (numbers_of entries hash), length-map (filter (λ (e : ℕ × ℕ). e.0 == hash) entries) (λ (e : ℕ × ℕ). e.1), length-filter-le (λ (e : ℕ × ℕ). e.0 == hash) entries)
 
 -- a place that fits 32 bits isn't the mark of what is unlinked
-pub linked_if_less : (next : ℕ) → next < 4294967295 → not (next == 4294967295) ≡ true
-linked_if_less next less = ap not (ne_eqb next 4294967295 (λ e. let wrong : ⊥ = omega (arith, e, less) in wrong))
+pub linked_if_less : (next : ℕ) → next < UNLINKED → not (next == UNLINKED) ≡ true
+linked_if_less next less = ap not (ne_eqb next UNLINKED (λ e. let wrong : ⊥ = omega (arith, e, less) in wrong))
 
 -- a new link
 newest-push : (hash n : ℕ) (links : List Link) (link : Link) → n ≤ length links → newest hash (links ++ link ∷ []) n ≡ newest hash links n
@@ -73,7 +79,7 @@ pub record IsPushed (known more : List (ℕ × ℕ)) (links after : List Link) (
   pub knows : AreKnown more after
   pub entries : entries_of after ≡ entries_of links ++ entry ∷ []
 
-pub pushed : (known more : List (ℕ × ℕ)) (links after : List Link) (hash number next : ℕ) → AreLinked links → AreKnown known links → length links < 4294967295 → next ≡ unwrap_or (lookup (nat_eq hash) known) 0 → after ≡ links ++ record { hash = hash; number = number; next = next } ∷ [] → ((q : ℕ) → lookup (nat_eq q) more ≡ cond (nat_eq hash q) (Some (length links + 1)) (lookup (nat_eq q) known)) → IsPushed known more links after (hash, number)
+pub pushed : (known more : List (ℕ × ℕ)) (links after : List Link) (hash number next : ℕ) → AreLinked links → AreKnown known links → length links < UNLINKED → next ≡ unwrap_or (lookup (nat_eq hash) known) 0 → after ≡ links ++ record { hash = hash; number = number; next = next } ∷ [] → ((q : ℕ) → lookup (nat_eq q) more ≡ cond (nat_eq hash q) (Some (length links + 1)) (lookup (nat_eq q) known)) → IsPushed known more links after (hash, number)
 pushed known more links after hash number next linked knows few next_is after_is updates =
     let link : Link = record { hash = hash; number = number; next = next } in
     let older : next ≡ newest hash links (length links) = next_is ∙ knows hash in

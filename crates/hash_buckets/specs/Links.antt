@@ -4,10 +4,11 @@ use Rattle.std.specs.Map.{lookup}
 use Rattle.std.specs.Option.{unwrap_or}
 use Rattle.hash_buckets.specs.Buckets.{numbers_of}
 use Rattle.hash_buckets.specs.declared.links.Link.{Link}
+use Rattle.hash_buckets.specs.declared.links.TheConstants.{UNLINKED}
 
 -- what stands past the end: a link that is unlinked
 abbrev pub no_link : Link
-no_link = record { hash = 0; number = 0; next = 4294967295 }
+no_link = record { hash = 0; number = 0; next = UNLINKED }
 
 -- the link at a place
 abbrev pub link_at : List Link → ℕ → Link
@@ -15,7 +16,7 @@ link_at links place = slice_index_or links place no_link
 
 -- whether a link wasn't unlinked
 abbrev pub is_linked : Link → Bool
-is_linked link = not (link.next == 4294967295)
+is_linked link = not (link.next == UNLINKED)
 
 -- whether a link is linked under a hash
 abbrev pub is_under : ℕ → Link → Bool

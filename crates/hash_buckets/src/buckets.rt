@@ -1,6 +1,6 @@
 //! Numbers under hashes, in one arena of links for all.
 
-ghost use Rattle.std.specs.Prelude.{◌≡◌, ◌+◌, ◌≤◌, [], ◌∷◌, ◌++◌, IfOk, OnErr, OnOk, filter, length, reverse};
+ghost use Rattle.std.specs.Prelude.{◌≡◌, ◌+◌, ◌<◌, ◌≤◌, ◌^◌, [], ◌∷◌, ◌++◌, IfOk, OnErr, OnOk, filter, length, reverse};
 ghost use Rattle.hash_buckets.specs.Buckets.{numbers_of, stays};
 ghost use Rattle.hash_buckets.specs.Links.{entries_of};
 
@@ -105,7 +105,8 @@ impl Buckets {
     /// The numbers under a hash, the newest first, but for those that were cleaned away. It takes no
     /// memory, and a constant time for each number.
     pub fn bucket(&self, hash: u64) -> Bucket<'_>
-        ensures { result ≡ reverse (numbers_of self.now.entries hash) }
+        ensures numbers { result ≡ reverse (numbers_of self.now.entries hash) }
+        ensures few { length result < 2 ^ 32 }
     {
         Bucket {
             links: self.links.as_slice(),

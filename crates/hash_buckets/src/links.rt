@@ -46,13 +46,14 @@ pub(crate) fn clean_bucket<L: Living>(
     let mut kept = 0;
     let mut at = head;
     while at != 0 {
-        let link = links[at as usize - 1];
-        if living.is_living(link.number) {
+        let link = &links[at as usize - 1];
+        let Link { number, next, .. } = *link;
+        if living.is_living(number) {
             kept = at;
         } else {
-            first = unlink(links, first, kept, at, link.next);
+            first = unlink(links, first, kept, at, next);
         }
-        at = link.next;
+        at = next;
     }
     first
 }

@@ -10,8 +10,8 @@ none = record { hash = 0; number = 0; next = 0 }
 pub loop-at-init : goal.loop-at-init
 loop-at-init g c = cleaning_begins c.args.hash (g.L.Living.lives c.args.living.now) c.args.links.now c.args.head c.requires.linked c.requires.head
 
-pub slice_copy_out-link : goal.slice_copy_out-link
-slice_copy_out-link g c =
+pub bounds-links-at : goal.bounds-links-at
+bounds-links-at g c =
     let within = cleaning_within c.args.hash (g.L.Living.lives c.args.living.now) c.args.links.now c.loop-at.links c.loop-at.first c.loop-at.kept c.loop-at.at none c.loop-at.invariant c.loop-at-test.true in
     omega (arith, within.at_fits, c.loop-at-test.true)
 
