@@ -1,14 +1,15 @@
 -- The numbers of one hash, newest first, and the walk along them.
-use Rattle.std.proofs.Common.{◌≡◌, add-one, inl, inr, ℕ, zero, suc, ◌+◌, ◌-◌, ◌<◌, ◌≤◌, List, [], ◌∷◌, ◌++◌, Bool, true, false, ◌&&◌, ◌==◌, cond, get_or, length, map, not, refl, reverse, ap, subst, sym, take, ◌∙◌, arith}
+use Rattle.std.proofs.Common.{◌≡◌, inl, inr, ℕ, zero, suc, ◌-◌, ◌<◌, ◌≤◌, List, [], ◌∷◌, ◌++◌, Bool, true, false, ◌&&◌, ◌==◌, cond, get_or, length, map, Option, refl, reverse, ap, subst, sym, take, ◌∙◌, arith}
 use Rattle.std.specs.List.{filter}
+use Rattle.std.specs.Option.{unwrap_or}
 use Rattle.std.proofs.Math.Seq.{take-suc}
 use Rattle.std.proofs.lemmas.Bool.{cases_lt, eqb-true}
 use Rattle.std.proofs.lemmas.List.{append-nil, get_or_default, get_or_past, map-append, reverse-append, take_all}
 use Rattle.std.proofs.lemmas.List.Elements.{filter-append}
 use Rattle.hash_buckets.specs.Buckets.{numbers_of}
-use Rattle.hash_buckets.specs.Links.{AreLinked, bucket, entries_of, entry_of, is_linked, is_under, last_place, link_at, newest, no_link}
+use Rattle.hash_buckets.specs.Links.{AreLinked, bucket, entries_of, entry_of, is_linked, is_under, link_at, newest, no_link}
 use Rattle.hash_buckets.specs.declared.links.Link.{Link}
-use Rattle.hash_buckets.proofs.PlaceLemmas.{last_place-again, last_place-here, last_place-passes, last_place-within}
+use Rattle.hash_buckets.proofs.PlaceLemmas.{last_place-again, last_place-passes, last_place-within}
 
 -- what is filed by links and one more
 pub entries_of-append : (xs ys : List Link) → entries_of (xs ++ ys) ≡ entries_of xs ++ entries_of ys
@@ -48,10 +49,11 @@ past_under hash n links le = ap (is_under hash) (get_or_past links n no_link le)
 
 bucket-suc : (hash n : ℕ) (links : List Link) → bucket hash links (suc n) ≡ cond (is_under hash (link_at links n)) ((link_at links n).number ∷ bucket hash links n) (bucket hash links n)
 bucket-suc hash n links = elim (cases_lt n (length links)) [
-    inl lt ↦ ap (λ (ls : List Link). reverse (numbers_of (entries_of ls) hash)) (take-suc links n no_link lt) ∙ numbers-push hash (take n links) (link_at links n)
-    | inr le ↦
-        ap (λ (ls : List Link). reverse (numbers_of (entries_of ls) hash)) (take_all (suc n) links (omega (arith, le)) ∙ sym (take_all n links le))
-        ∙ sym (ap (λ (b : Bool). cond b ((link_at links n).number ∷ bucket hash links n) (bucket hash links n)) (past_under hash n links le)) ]
+  | inl lt ↦ ap (λ (ls : List Link). reverse (numbers_of (entries_of ls) hash)) (take-suc links n no_link lt) ∙ numbers-push hash (take n links) (link_at links n)
+  | inr le ↦
+      ap (λ (ls : List Link). reverse (numbers_of (entries_of ls) hash)) (take_all (suc n) links (omega (arith, le)) ∙ sym (take_all n links le))
+      ∙ sym (ap (λ (b : Bool). cond b ((link_at links n).number ∷ bucket hash links n) (bucket hash links n)) (past_under hash n links le))
+]
 
 -- the newest link is where the bucket begins
 newest_step : (hash n : ℕ) (links : List Link) (b : Bool) → is_under hash (link_at links n) ≡ b → bucket hash links n ≡ bucket hash links (newest hash links n) → cond b ((link_at links n).number ∷ bucket hash links n) (bucket hash links n) ≡ bucket hash links (cond b (suc n) (newest hash links n))
@@ -86,19 +88,15 @@ step_from_under hash links place linked under =
     let test : ℕ → Bool = λ (p : ℕ). is_under hash (link_at links p) in
     record {
       number =
-        bucket-suc hash place links
-        ∙ ap (λ (b : Bool). cond b ((link_at links place).number ∷ bucket hash links place) (bucket hash links place)) under
-        ∙ ap (λ (ns : List ℕ). (link_at links place).number ∷ ns) (bucket-newest hash place links ∙ ap (bucket hash links) (sym next));
+          bucket-suc hash place links
+          ∙ ap (λ (b : Bool). cond b ((link_at links place).number ∷ bucket hash links place) (bucket hash links place)) under
+          ∙ ap (λ (ns : List ℕ). (link_at links place).number ∷ ns) (bucket-newest hash place links ∙ ap (bucket hash links) (sym next));
       goes_on = ap (newest hash links) next ∙ last_place-again test place ∙ sym next;
       lower = omega (arith, next, last_place-within test place);
       within = omega (arith, is_under-within hash place links under);
     }
 
--- what stands before an `at` that a walk may have
-pub under_at : (hash at : ℕ) (links : List Link) → newest hash links at ≡ at → (at ≡ 0 → ⊥) → (place : ℕ) × (at ≡ suc place) × (at - 1 ≡ place) × (is_under hash (link_at links place) ≡ true)
-under_at hash zero links is some = absurd (some refl)
-under_at hash (suc place) links is some = (place, refl, omega arith, last_place-passes (λ (p : ℕ). is_under hash (link_at links p)) (suc place) place is)
-
+-- the same at an `at` that isn't 0, and a link that was read before it
 pub step_at : (hash at : ℕ) (links : List Link) (past : Link) → AreLinked links → newest hash links at ≡ at → (at ≡ 0 → ⊥) → IsStep hash links at (get_or links (at - 1) past)
 step_at hash zero links past linked is some = absurd (some refl)
 step_at hash (suc place) links past linked is some =
@@ -107,14 +105,19 @@ step_at hash (suc place) links past linked is some =
     subst (IsStep hash links (suc place)) (sym here) (step_from_under hash links place linked under)
 
 -- a walk that begins at the newest link tells the whole bucket
-pub walk_begins : (hash head : ℕ) (links slice : List Link) → AreLinked links → slice ≡ links → head ≡ newest hash links (length links) → AreLinked slice × (newest hash slice head ≡ head)
-walk_begins hash head links slice linked same is =
-    (subst AreLinked (sym same) linked,
-    ap (λ (ls : List Link). newest hash ls head) same ∙ ap (newest hash links) is ∙ last_place-again (λ (p : ℕ). is_under hash (link_at links p)) (length links) ∙ sym is)
+pub record IsBegun (hash head : ℕ) (links slice : List Link) : Type 0 where
+  pub linked : AreLinked slice
+  pub at : newest hash slice head ≡ head
+  pub whole : bucket hash slice head ≡ reverse (numbers_of (entries_of links) hash)
 
-pub walk_whole : (hash head : ℕ) (links slice : List Link) → slice ≡ links → head ≡ newest hash links (length links) → bucket hash slice head ≡ reverse (numbers_of (entries_of links) hash)
-walk_whole hash head links slice same is =
-    ap (λ (ls : List Link). bucket hash ls head) same
-    ∙ ap (bucket hash links) is
-    ∙ sym (bucket-newest hash (length links) links)
-    ∙ ap (λ (ls : List Link). reverse (numbers_of (entries_of ls) hash)) (take_all (length links) links (omega arith))
+pub begun : (hash head : ℕ) (links slice : List Link) (found : Option ℕ) → AreLinked links → slice ≡ links → unwrap_or found 0 ≡ newest hash links (length links) → head ≡ unwrap_or found 0 → IsBegun hash head links slice
+begun hash head links slice found linked same knows head_is =
+    let is : head ≡ newest hash links (length links) = head_is ∙ knows in
+    subst (IsBegun hash head links) (sym same) (record {
+      linked = linked;
+      at = ap (newest hash links) is ∙ last_place-again (λ (p : ℕ). is_under hash (link_at links p)) (length links) ∙ sym is;
+      whole =
+          ap (bucket hash links) is
+          ∙ sym (bucket-newest hash (length links) links)
+          ∙ ap (λ (ls : List Link). reverse (numbers_of (entries_of ls) hash)) (take_all (length links) links (omega arith));
+    })

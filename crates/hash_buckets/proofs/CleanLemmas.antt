@@ -1,14 +1,14 @@
 -- A bucket is cleaned, link by link.
-use Rattle.std.proofs.Common.{◌≡◌, inl, inr, ℕ, zero, suc, ◌+◌, ◌-◌, ◌<◌, ◌≤◌, List, [], ◌∷◌, Bool, true, false, ◌&&◌, ◌||◌, ◌==◌, cond, get_or, length, map, not, refl, ap, subst, sym, ◌∙◌, arith}
+use Rattle.std.proofs.Common.{◌≡◌, inl, inr, ℕ, zero, suc, ◌-◌, ◌<◌, ◌≤◌, List, [], ◌∷◌, Bool, true, false, ◌&&◌, ◌||◌, ◌==◌, cond, get_or, length, map, not, refl, ap, subst, sym, ◌∙◌, arith}
 use Rattle.std.specs.List.{filter}
 use Rattle.std.proofs.lemmas.Bool.{cases_eq, cases_lt, eqb-true}
 use Rattle.std.proofs.lemmas.List.{get_or_default}
 use Rattle.hash_buckets.specs.Buckets.{stays}
-use Rattle.hash_buckets.specs.Links.{AreLinked, entries_of, entry_of, first_after, is_linked, is_under, last_place, link_at, newest, no_link, with_next, with_next_after}
+use Rattle.hash_buckets.specs.Links.{AreLinked, entries_of, entry_of, first_after, is_linked, is_under, link_at, newest, no_link, with_next, with_next_after}
 use Rattle.hash_buckets.specs.declared.links.Link.{Link}
 use Rattle.hash_buckets.specs.declared.links.TheConstants.{UNLINKED}
 use Rattle.hash_buckets.proofs.BucketLemmas.{both, is_under-within, past_under}
-use Rattle.hash_buckets.proofs.CutLemmas.{IsCut, IsCutOut, IsWalking, cut_out, cut_walks, end_of, under_walk}
+use Rattle.hash_buckets.proofs.CutLemmas.{IsWalking, cut_out, cut_walks, under_walk}
 use Rattle.hash_buckets.proofs.PlaceLemmas.{last_place-here, last_place-passes, last_place-same, last_place-skips, last_place-within}
 
 -- from a place on, the links that don't stay aren't linked any more, and all others are as before
@@ -50,8 +50,9 @@ cleaning_begins hash lives links head linked is = record {
     entry = λ i. refl;
     below = λ i lt. refl;
     above = λ i le. elim (cases_lt i (length links)) [
-      inl lt ↦ other_stays hash lives (link_at links i) (last_place-skips (λ (n : ℕ). is_under hash (link_at links n)) (length links) i (omega (arith, le, is)) lt)
-      | inr past ↦ other_stays hash lives (link_at links i) (past_under hash i links past) ];
+      | inl lt ↦ other_stays hash lives (link_at links i) (last_place-skips (λ (n : ℕ). is_under hash (link_at links n)) (length links) i (omega (arith, le, is)) lt)
+      | inr past ↦ other_stays hash lives (link_at links i) (past_under hash i links past)
+    ];
   };
 }
 
@@ -81,11 +82,13 @@ cleaning_keeps hash lives old links first kept p cleaning living =
         entry = cleaning.cleaned.entry;
         below = λ i lt. cleaning.cleaned.below i (omega (arith, lt, next, low));
         above = λ i le. elim (cases_lt i p) [
-          inl lt ↦ skipped hash lives (suc p) p i old links cleaning.cleaned (omega arith) (omega (arith, le, next)) lt
+          | inl lt ↦ skipped hash lives (suc p) p i old links cleaning.cleaned (omega arith) (omega (arith, le, next)) lt
           | inr past ↦ elim (cases_eq i p) [
-            inl same ↦ subst (λ (q : ℕ). is_linked (link_at links q) ≡ (is_linked (link_at old q) && stays hash lives (entry_of (link_at old q)))) (sym same)
-              (cleaning.cleaned.below p (omega arith) ∙ stays_step ((link_at old p).hash == hash) (is_linked (link_at old p)) (lives (link_at old p).number) (ap (λ (e : ℕ × ℕ). lives e.1) (sym (cleaning.cleaned.entry p)) ∙ living))
-            | inr other ↦ cleaning.cleaned.above i (omega (arith, past, other)) ] ];
+            | inl same ↦ subst (λ (q : ℕ). is_linked (link_at links q) ≡ (is_linked (link_at old q) && stays hash lives (entry_of (link_at old q)))) (sym same)
+                (cleaning.cleaned.below p (omega arith) ∙ stays_step ((link_at old p).hash == hash) (is_linked (link_at old p)) (lives (link_at old p).number) (ap (λ (e : ℕ × ℕ). lives e.1) (sym (cleaning.cleaned.entry p)) ∙ living))
+            | inr other ↦ cleaning.cleaned.above i (omega (arith, past, other))
+          ]
+        ];
       };
     }
 
@@ -107,13 +110,15 @@ cleaning_cuts hash lives old links after first kept p cleaning dead is =
         entry = λ i. out.cut.entry i ∙ cleaning.cleaned.entry i;
         below = λ i lt. out.cut.others i (λ e. let wrong : ⊥ = omega (arith, e, lt, out.next, low) in wrong) ∙ cleaning.cleaned.below i (omega (arith, lt, out.next, low));
         above = λ i le. elim (cases_lt i p) [
-          inl lt ↦ out.cut.others i (λ e. let wrong : ⊥ = omega (arith, e, lt) in wrong) ∙ skipped hash lives (suc p) p i old links cleaning.cleaned (omega arith) (omega (arith, le, out.next)) lt
+          | inl lt ↦ out.cut.others i (λ e. let wrong : ⊥ = omega (arith, e, lt) in wrong) ∙ skipped hash lives (suc p) p i old links cleaning.cleaned (omega arith) (omega (arith, le, out.next)) lt
           | inr past ↦ elim (cases_eq i p) [
-            inl same ↦ subst (λ (q : ℕ). is_linked (link_at after q) ≡ (is_linked (link_at old q) && stays hash lives (entry_of (link_at old q)))) (sym same)
-              (out.cut.gone ∙ goes_step (is_linked (link_at old p)) ((link_at old p).hash == hash) (lives (link_at old p).number)
+            | inl same ↦ subst (λ (q : ℕ). is_linked (link_at after q) ≡ (is_linked (link_at old q) && stays hash lives (entry_of (link_at old q)))) (sym same)
+                (out.cut.gone ∙ goes_step (is_linked (link_at old p)) ((link_at old p).hash == hash) (lives (link_at old p).number)
                 (ap (λ (e : ℕ × ℕ). e.0 == hash) (sym (cleaning.cleaned.entry p)) ∙ parts.0)
                 (ap (λ (e : ℕ × ℕ). lives e.1) (sym (cleaning.cleaned.entry p)) ∙ dead))
-            | inr other ↦ out.cut.others i other ∙ cleaning.cleaned.above i (omega (arith, past, other)) ] ];
+            | inr other ↦ out.cut.others i other ∙ cleaning.cleaned.above i (omega (arith, past, other))
+          ]
+        ];
       };
     }
 

@@ -1,13 +1,13 @@
 -- One link is unlinked, and what led to it leads past it.
-use Rattle.std.proofs.Common.{◌≡◌, inl, inr, ℕ, zero, suc, ◌+◌, ◌-◌, ◌<◌, ◌≤◌, ◌^◌, List, [], ◌∷◌, Bool, true, false, ◌&&◌, ◌==◌, cond, get_or, length, not, set, refl, ap, subst, sym, ◌∙◌, arith}
+use Rattle.std.proofs.Common.{◌≡◌, inl, inr, ℕ, zero, suc, ◌<◌, List, Bool, true, false, ◌&&◌, ◌==◌, length, refl, ap, subst, sym, ◌∙◌, arith}
 use Rattle.std.proofs.lemmas.Bool.{cases_eq, cases_lt, eq-eqb, eqb-true}
 use Rattle.std.proofs.lemmas.List.{get_or-set_other, get_or-set_same, length-set}
-use Rattle.hash_buckets.specs.Links.{AreLinked, entry_of, first_after, is_linked, is_under, last_place, link_at, newest, no_link, with_next, with_next_after}
+use Rattle.hash_buckets.specs.Links.{AreLinked, entry_of, first_after, is_linked, is_under, link_at, newest, no_link, with_next, with_next_after}
 use Rattle.hash_buckets.specs.declared.links.Link.{Link}
 use Rattle.hash_buckets.specs.declared.links.TheConstants.{UNLINKED}
 use Rattle.hash_buckets.proofs.BucketLemmas.{both, is_under-within}
 use Rattle.hash_buckets.proofs.LinkLemmas.{linked_if_less}
-use Rattle.hash_buckets.proofs.PlaceLemmas.{IsWithout, last_place-after, last_place-again, last_place-here, last_place-moves, last_place-passes, last_place-same, last_place-skips, last_place-stays, last_place-within}
+use Rattle.hash_buckets.proofs.PlaceLemmas.{IsWithout, last_place-after, last_place-here, last_place-moves, last_place-passes, last_place-stays, last_place-within}
 
 -- of all links, only the one at a place isn't linked any more
 pub record IsCut (p : ℕ) (old new : List Link) : Type 0 where
@@ -25,13 +25,15 @@ with_next-other links p next i other = get_or-set_other links p i (record (link_
 
 entry-with_next : (links : List Link) (p next i : ℕ) → p < length links → entry_of (link_at (with_next links p next) i) ≡ entry_of (link_at links i)
 entry-with_next links p next i lt = elim (cases_eq i p) [
-    inl same ↦ subst (λ (q : ℕ). entry_of (link_at (with_next links p next) q) ≡ entry_of (link_at links q)) (sym same) (ap entry_of (with_next-same links p next lt))
-    | inr other ↦ ap entry_of (with_next-other links p next i other) ]
+  | inl same ↦ subst (λ (q : ℕ). entry_of (link_at (with_next links p next) q) ≡ entry_of (link_at links q)) (sym same) (ap entry_of (with_next-same links p next lt))
+  | inr other ↦ ap entry_of (with_next-other links p next i other)
+]
 
 linked-with_next : (links : List Link) (p next i : ℕ) → p < length links → next < UNLINKED → is_linked (link_at links p) ≡ true → is_linked (link_at (with_next links p next) i) ≡ is_linked (link_at links i)
 linked-with_next links p next i lt less linked = elim (cases_eq i p) [
-    inl same ↦ subst (λ (q : ℕ). is_linked (link_at (with_next links p next) q) ≡ is_linked (link_at links q)) (sym same) (ap is_linked (with_next-same links p next lt) ∙ linked_if_less next less ∙ sym linked)
-    | inr other ↦ ap is_linked (with_next-other links p next i other) ]
+  | inl same ↦ subst (λ (q : ℕ). is_linked (link_at (with_next links p next) q) ≡ is_linked (link_at links q)) (sym same) (ap is_linked (with_next-same links p next lt) ∙ linked_if_less next less ∙ sym linked)
+  | inr other ↦ ap is_linked (with_next-other links p next i other)
+]
 
 cut_one : (links : List Link) (p : ℕ) → p < length links → IsCut p links (with_next links p UNLINKED)
 cut_one links p lt = record {
@@ -58,8 +60,8 @@ pub cut_tests : (p : ℕ) (old new : List Link) → IsCut p old new → (hash : 
 cut_tests p old new cut hash = record {
   gone = ap (λ (b : Bool). ((link_at new p).hash == hash) && b) cut.gone ∙ never ((link_at new p).hash == hash);
   others = λ i other.
-    ap (λ (e : ℕ × ℕ). (e.0 == hash) && is_linked (link_at new i)) (cut.entry i)
-    ∙ ap (λ (b : Bool). ((link_at old i).hash == hash) && b) (cut.others i other);
+      ap (λ (e : ℕ × ℕ). (e.0 == hash) && is_linked (link_at new i)) (cut.entry i)
+      ∙ ap (λ (b : Bool). ((link_at old i).hash == hash) && b) (cut.others i other);
 }
 
 -- where a walk is that keeps some links and unlinks others: the link that it kept last leads to where it is
@@ -102,9 +104,13 @@ only_kept hash p first zero old new out i under leads =
     absurd (let wrong : ⊥ = omega (arith, after, out.walking.at_is, low, leads) in wrong)
 only_kept hash p first (suc j) old new out i under leads =
     let t : ℕ → Bool = λ (n : ℕ). is_under hash (link_at old n) in
-    elim (cases_eq i j) [ inl same ↦ ap suc same | inr other ↦ elim (cases_lt i j) [
-        inl lt ↦ absurd (let after = last_place-after t j i under lt in let low = last_place-within t i in let wrong : ⊥ = omega (arith, after, out.walking.at_is, low, leads) in wrong)
-        | inr le ↦ absurd (let there : t j ≡ true = last_place-passes t (suc j) j out.walking.kept_is in let after = last_place-after t i j there (omega (arith, le, other)) in let low = last_place-within t j in let wrong : ⊥ = omega (arith, after, out.walking.at_is, low, leads) in wrong) ] ]
+    elim (cases_eq i j) [
+      | inl same ↦ ap suc same
+      | inr other ↦ elim (cases_lt i j) [
+        | inl lt ↦ absurd (let after = last_place-after t j i under lt in let low = last_place-within t i in let wrong : ⊥ = omega (arith, after, out.walking.at_is, low, leads) in wrong)
+        | inr le ↦ absurd (let there : t j ≡ true = last_place-passes t (suc j) j out.walking.kept_is in let after = last_place-after t i j there (omega (arith, le, other)) in let low = last_place-within t j in let wrong : ⊥ = omega (arith, after, out.walking.at_is, low, leads) in wrong)
+      ]
+    ]
 
 -- the links are still right
 hash_of : (p : ℕ) (old new : List Link) → IsCut p old new → (i : ℕ) → (link_at new i).hash ≡ (link_at old i).hash
@@ -124,27 +130,29 @@ cut_older hash p first kept old new out i linked =
     let s : ℕ → Bool = λ (n : ℕ). is_under hash (link_at new n) in
     let t : ℕ → Bool = λ (n : ℕ). is_under hash (link_at old n) in
     elim (cases_eq (link_at old i).hash hash) [
-        inl same ↦
-            let under : is_under hash (link_at old i) ≡ true = ap (λ (b : Bool). b && is_linked (link_at old i)) (eq-eqb (link_at old i).hash hash same) ∙ was in
-            let goal_at : newest (link_at new i).hash new i ≡ newest hash new i = ap (λ (h : ℕ). newest h new i) (hashed ∙ same) in
-            elim (cases_eq (suc i) kept) [
-                inl is_kept ↦
-                    out.led i is_kept ∙ out.next
-                    ∙ sym (newest_of_kept hash p first kept old new out)
-                    ∙ ap (newest hash new) (subst (λ (k : ℕ). end_of k new ≡ i) is_kept refl)
-                    ∙ sym goal_at
-                | inr not_kept ↦
-                    ap (λ (l : Link). l.next) (out.same i not_p not_kept)
-                    ∙ out.walking.linked.older i was
-                    ∙ ap (λ (h : ℕ). newest h old i) same
-                    ∙ sym (last_place-stays s t p i (cut_tests p old new out.cut hash) (λ leads. not_kept (only_kept hash p first kept old new out i under leads)))
-                    ∙ sym goal_at ]
-        | inr differs ↦
-            let not_kept : suc i ≡ kept → ⊥ = λ (e : suc i ≡ kept). differs (let under = last_place-passes t (suc i) i (subst (λ (k : ℕ). newest hash old k ≡ k) (sym e) out.walking.kept_is) in eqb-true (link_at old i).hash hash (both ((link_at old i).hash == hash) (is_linked (link_at old i)) under).0) in
-            ap (λ (l : Link). l.next) (out.same i not_p not_kept)
-            ∙ out.walking.linked.older i was
-            ∙ sym (other_hash p hash (link_at old i).hash old new out.cut out.under differs i)
-            ∙ sym (ap (λ (h : ℕ). newest h new i) hashed) ]
+      | inl same ↦
+          let under : is_under hash (link_at old i) ≡ true = ap (λ (b : Bool). b && is_linked (link_at old i)) (eq-eqb (link_at old i).hash hash same) ∙ was in
+          let goal_at : newest (link_at new i).hash new i ≡ newest hash new i = ap (λ (h : ℕ). newest h new i) (hashed ∙ same) in
+          elim (cases_eq (suc i) kept) [
+            | inl is_kept ↦
+                out.led i is_kept ∙ out.next
+                ∙ sym (newest_of_kept hash p first kept old new out)
+                ∙ ap (newest hash new) (subst (λ (k : ℕ). end_of k new ≡ i) is_kept refl)
+                ∙ sym goal_at
+            | inr not_kept ↦
+                ap (λ (l : Link). l.next) (out.same i not_p not_kept)
+                ∙ out.walking.linked.older i was
+                ∙ ap (λ (h : ℕ). newest h old i) same
+                ∙ sym (last_place-stays s t p i (cut_tests p old new out.cut hash) (λ leads. not_kept (only_kept hash p first kept old new out i under leads)))
+                ∙ sym goal_at
+          ]
+      | inr differs ↦
+          let not_kept : suc i ≡ kept → ⊥ = λ (e : suc i ≡ kept). differs (let under = last_place-passes t (suc i) i (subst (λ (k : ℕ). newest hash old k ≡ k) (sym e) out.walking.kept_is) in eqb-true (link_at old i).hash hash (both ((link_at old i).hash == hash) (is_linked (link_at old i)) under).0) in
+          ap (λ (l : Link). l.next) (out.same i not_p not_kept)
+          ∙ out.walking.linked.older i was
+          ∙ sym (other_hash p hash (link_at old i).hash old new out.cut out.under differs i)
+          ∙ sym (ap (λ (h : ℕ). newest h new i) hashed)
+    ]
 
 cut_first : (hash p first kept : ℕ) (old new : List Link) → IsCutOut hash p first kept old new → first_after kept first (link_at old p).next ≡ newest hash new (length new)
 cut_first hash p first zero old new out = out.next ∙ sym (newest_of_kept hash p first zero old new out)

@@ -1,5 +1,5 @@
 -- What a new link changes.
-use Rattle.std.proofs.Common.{◌≡◌, inl, inr, ℕ, zero, suc, ◌+◌, ◌<◌, ◌≤◌, ◌^◌, List, [], ◌∷◌, ◌++◌, Bool, true, false, ◌&&◌, ◌==◌, cond, get_or, length, map, nat_eq, not, Option, Some, refl, reverse, ap, subst, sym, ◌∙◌, arith}
+use Rattle.std.proofs.Common.{◌≡◌, inl, inr, ℕ, suc, ◌+◌, ◌<◌, ◌≤◌, ◌^◌, List, [], ◌∷◌, ◌++◌, Bool, true, false, ◌&&◌, ◌==◌, cond, length, map, nat_eq, not, Option, Some, refl, reverse, ap, subst, sym, ◌∙◌, arith}
 use Rattle.std.specs.List.{filter}
 use Rattle.std.specs.Map.{lookup}
 use Rattle.std.specs.Option.{unwrap_or}
@@ -41,16 +41,18 @@ past_linked links place le is = let past = ap is_linked (get_or_past links place
 
 older_pushed : (links : List Link) (link : Link) (next : ℕ) → AreLinked links → link.next ≡ newest link.hash links (length links) → (place : ℕ) → is_linked (link_at (links ++ link ∷ []) place) ≡ true → (link_at (links ++ link ∷ []) place).next ≡ newest (link_at (links ++ link ∷ []) place).hash (links ++ link ∷ []) place
 older_pushed links link next linked is place here = elim (cases_lt place (length links)) [
-    inl lt ↦
-        let same : link_at (links ++ link ∷ []) place ≡ link_at links place = get_or_append_left links (link ∷ []) no_link place lt in
+  | inl lt ↦
+      let same : link_at (links ++ link ∷ []) place ≡ link_at links place = get_or_append_left links (link ∷ []) no_link place lt in
+      subst (λ (l : Link). l.next ≡ newest l.hash (links ++ link ∷ []) place) (sym same)
+      (linked.older place (sym (ap is_linked same) ∙ here) ∙ sym (newest-push (link_at links place).hash place links link (omega (arith, lt))))
+  | inr le ↦ elim (cases_eq (length links) place) [
+    | inl e ↦
+        let same : link_at (links ++ link ∷ []) place ≡ link = get_or_push links link no_link place e in
         subst (λ (l : Link). l.next ≡ newest l.hash (links ++ link ∷ []) place) (sym same)
-        (linked.older place (sym (ap is_linked same) ∙ here) ∙ sym (newest-push (link_at links place).hash place links link (omega (arith, lt))))
-    | inr le ↦ elim (cases_eq (length links) place) [
-        inl e ↦
-            let same : link_at (links ++ link ∷ []) place ≡ link = get_or_push links link no_link place e in
-            subst (λ (l : Link). l.next ≡ newest l.hash (links ++ link ∷ []) place) (sym same)
-            (is ∙ ap (newest link.hash links) e ∙ sym (newest-push link.hash place links link (omega (arith, e))))
-        | inr other ↦ absurd (past_linked (links ++ link ∷ []) place (omega (arith, length_push links link, le, other)) here) ] ]
+        (is ∙ ap (newest link.hash links) e ∙ sym (newest-push link.hash place links link (omega (arith, e))))
+    | inr other ↦ absurd (past_linked (links ++ link ∷ []) place (omega (arith, length_push links link, le, other)) here)
+  ]
+]
 
 pub linked-push : (links : List Link) (link : Link) → AreLinked links → length links + 1 < 2 ^ 32 → link.next ≡ newest link.hash links (length links) → AreLinked (links ++ link ∷ [])
 linked-push links link linked few is = record { few = omega (arith, length_push links link, few); older = older_pushed links link link.next linked is }
@@ -74,19 +76,29 @@ entry_step : (link : Link) (b : Bool) → b ≡ true → map entry_of (cond b (l
 entry_step link b is = ap (λ (b : Bool). map entry_of (cond b (link ∷ []) [])) is
 
 -- all that a new link changes
-pub record IsPushed (known more : List (ℕ × ℕ)) (links after : List Link) (entry : ℕ × ℕ) : Type 0 where
+pub record IsPushed (more : List (ℕ × ℕ)) (links after : List Link) (entry : ℕ × ℕ) : Type 0 where
   pub linked : AreLinked after
   pub knows : AreKnown more after
   pub entries : entries_of after ≡ entries_of links ++ entry ∷ []
+  pub long : length after ≡ length links + 1
 
-pub pushed : (known more : List (ℕ × ℕ)) (links after : List Link) (hash number next : ℕ) → AreLinked links → AreKnown known links → length links < UNLINKED → next ≡ unwrap_or (lookup (nat_eq hash) known) 0 → after ≡ links ++ record { hash = hash; number = number; next = next } ∷ [] → ((q : ℕ) → lookup (nat_eq q) more ≡ cond (nat_eq hash q) (Some (length links + 1)) (lookup (nat_eq q) known)) → IsPushed known more links after (hash, number)
-pushed known more links after hash number next linked knows few next_is after_is updates =
+pushed_link : (known more : List (ℕ × ℕ)) (links : List Link) (hash number next : ℕ) → AreLinked links → AreKnown known links → length links < UNLINKED → next ≡ newest hash links (length links) → ((q : ℕ) → lookup (nat_eq q) more ≡ cond (nat_eq hash q) (Some (length links + 1)) (lookup (nat_eq q) known)) → IsPushed more links (links ++ record { hash = hash; number = number; next = next } ∷ []) (hash, number)
+pushed_link known more links hash number next linked knows few older updates =
     let link : Link = record { hash = hash; number = number; next = next } in
-    let older : next ≡ newest hash links (length links) = next_is ∙ knows hash in
     let within = last_place-within (λ (i : ℕ). is_under hash (link_at links i)) (length links) in
     let is : is_linked link ≡ true = linked_if_less next (omega (arith, older, within, few)) in
     record {
-      linked = subst AreLinked (sym after_is) (linked-push links link linked (omega (arith, few)) older);
-      knows = subst (AreKnown more) (sym after_is) (known-push known more links link knows is updates);
-      entries = ap entries_of after_is ∙ entries_of-append links (link ∷ []) ∙ ap (λ (es : List (ℕ × ℕ)). entries_of links ++ es) (entry_step link (is_linked link) is);
+      linked = linked-push links link linked (omega (arith, few)) older;
+      knows = known-push known more links link knows is updates;
+      entries = entries_of-append links (link ∷ []) ∙ ap (λ (es : List (ℕ × ℕ)). entries_of links ++ es) (entry_step link (is_linked link) is);
+      long = length_push links link;
     }
+
+-- the same by what the calls say
+pub pushed : (known more : List (ℕ × ℕ)) (links reserved after : List Link) (hash number next place : ℕ) (older : Option ℕ) → AreLinked links × AreKnown known links → place ≡ length links → place < UNLINKED → reserved ≡ links → older ≡ lookup (nat_eq hash) known → ((q : ℕ) → lookup (nat_eq q) more ≡ cond (nat_eq hash q) (Some (place + 1)) (lookup (nat_eq q) known)) → next ≡ unwrap_or older 0 → after ≡ reserved ++ record { hash = hash; number = number; next = next } ∷ [] → IsPushed more links after (hash, number)
+pushed known more links reserved after hash number next place older holds len few kept found updates next_is after_is =
+    let link : Link = record { hash = hash; number = number; next = next } in
+    subst (λ (ls : List Link). IsPushed more links ls (hash, number)) (sym (after_is ∙ ap (λ (ls : List Link). ls ++ link ∷ []) kept))
+    (pushed_link known more links hash number next holds.0 holds.1 (omega (arith, len, few))
+    (next_is ∙ ap (λ (o : Option ℕ). unwrap_or o 0) found ∙ holds.1 hash)
+    (λ (q : ℕ). updates q ∙ ap (λ (n : ℕ). cond (nat_eq hash q) (Some (n + 1)) (lookup (nat_eq q) known)) len))

@@ -29,12 +29,7 @@ pub(crate) struct Link {
 
 /// Unlinks the numbers under this hash that don't live, and answers the newest link that is left. It is
 /// given the newest one before.
-pub(crate) fn clean_bucket<L: Living>(
-    links: &mut [Link],
-    hash: u64,
-    head: u32,
-    living: &L,
-) -> u32
+pub(crate) fn clean_bucket<L: Living>(links: &mut [Link], hash: u64, head: u32, living: &L) -> u32
     requires linked { AreLinked links.old }
     requires head { head ≡ newest hash links.old (length links.old) }
     ensures linked { AreLinked links.new }

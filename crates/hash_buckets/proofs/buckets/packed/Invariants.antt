@@ -7,5 +7,5 @@ use Rattle.hash_buckets.proofs.buckets.packed.Given as goal
 abbrev pub invariant-loop-link : goal.invariant-loop-link
 invariant-loop-link g l = record {
   filed : l.buckets.entries ≡ filter (λ e. g.L.Living.lives l.living e.1) (entries_of (take l.link-index l.links));
-  tight : l.buckets.links ≡ length l.buckets.entries
+  tight : l.buckets.links ≡ length l.buckets.entries;
 }

@@ -1,9 +1,10 @@
 -- Each link of the bucket is kept or cut out.
-use Rattle.std.proofs.Common.{◌≡◌, ◌∙◌, ℕ, true, false, sym, subst, arith}
+use Rattle.std.proofs.Common.{◌∙◌, sym, arith}
 use Rattle.hash_buckets.specs.declared.links.Link.{Link}
-use Rattle.hash_buckets.proofs.CleanLemmas.{IsCleaning, IsWithin, cleaned_entries, cleaned_others, cleaning_begins, cleaning_cuts_at, cleaning_done, cleaning_keeps_at, cleaning_within}
+use Rattle.hash_buckets.proofs.CleanLemmas.{cleaned_entries, cleaned_others, cleaning_begins, cleaning_cuts_at, cleaning_done, cleaning_keeps_at, cleaning_within}
 use Rattle.hash_buckets.proofs.links.clean_bucket.Goals as goal
 
+-- what is read past the end
 abbrev none : Link
 none = record { hash = 0; number = 0; next = 0 }
 

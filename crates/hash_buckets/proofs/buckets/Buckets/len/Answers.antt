@@ -1,5 +1,5 @@
 -- No more is filed than there are links.
-use Rattle.std.proofs.Common.{◌≡◌, ◌≤◌, ℕ, length, ap, subst, arith}
+use Rattle.std.proofs.Common.{length, ap, arith}
 use Rattle.hash_buckets.specs.Buckets.{Buckets}
 use Rattle.hash_buckets.proofs.LinkLemmas.{length-entries_of}
 use Rattle.hash_buckets.proofs.buckets.Buckets.len.Goals as goal
