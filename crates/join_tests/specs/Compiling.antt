@@ -3,12 +3,13 @@ use Rattle.std.specs.Prelude.{◌≡◌, ℕ, List, [], ◌∷◌, ◌++◌, Boo
 use Rattle.std.specs.Option.{option_map_or}
 use Rattle.rule_base.specs.declared.element.Element.{Element}
 use Rattle.rule_base.specs.declared.condition.Pred.{Pred}
+use Rattle.rule_base.specs.declared.condition.Arg.{Arg}
 use Rattle.rule_base.specs.declared.condition.Test.{Test}
 use Rattle.rule_base.specs.declared.condition.Test.TheVariants as test
 use Rattle.rule_base.specs.declared.condition.Cond.{Cond}
 use Rattle.rule_base.specs.Chains.{only_if}
 use Rattle.rule_base.specs.Predicate.{holds}
-use Rattle.rule_base.specs.Acceptance.{accepts, after_test}
+use Rattle.rule_base.specs.Acceptance.{accepts, after_test, compared_with}
 use Rattle.join_tests.specs.declared.joins.KeyPart.{KeyPart}
 use Rattle.join_tests.specs.declared.joins.JoinTest.{JoinTest}
 use Rattle.join_tests.specs.declared.joins.Join.{Join}
@@ -38,6 +39,11 @@ part_holds es e (Compare t) = tests_hold (t ∷ []) es e
 abbrev pub IsComparison : ℕ → ℕ → Pred → Option Source → Part → Type 0
 IsComparison number attribute predicate source part = (es : List Element) (e : Element) → length es ≡ number →
     part_holds es e part ≡ option_map_or (λ (s : Source). holds predicate (value_at e attribute) (value_in (es ++ e ∷ []) s)) source false
+
+-- the part compares the element's value at the attribute with a constant, or with the value of a variable
+abbrev pub Compares : ℕ → ℕ → Pred → Arg → Sources → Part → Type 0
+Compares number attribute predicate arg before part = (es : List Element) (e : Element) → length es ≡ number →
+    part_holds es e part ≡ option_map_or (holds predicate (value_at e attribute)) (compared_with arg (bindings_at before (es ++ e ∷ []))) false
 
 -- the part holds where the test does, at an element that has the attribute
 abbrev pub IsPart : ℕ → Sources → Test → Part → Type 0

@@ -4,7 +4,7 @@ ghost use Rattle.std.specs.Prelude.{◌≡◌, ◌&&◌, List, IfOk, OnOk, lengt
 ghost use Rattle.rule_base.specs.declared.element.Element.{Element};
 ghost use Rattle.join_tests.specs.Joining.{joins};
 ghost use Rattle.join_tests.specs.Sources.{source_of, sources_after_test, sources_after_tests};
-ghost use Rattle.join_tests.specs.Compiling.{attribute_of, part_holds, AsksMore, IsComparison, IsJoin, IsPart, TakesIn};
+ghost use Rattle.join_tests.specs.Compiling.{attribute_of, part_holds, AsksMore, Compares, IsComparison, IsJoin, IsPart, TakesIn};
 ghost use Rattle.join_tests.specs.Meaning.{IsCompiled};
 
 use crate::{Join, JoinTest, Joins, KeyPart, LoneTest, Negated, Pattern, Source};
@@ -112,8 +112,8 @@ fn bind(test: &Test, number: usize, sources: &mut [Option<Source>])
     ensures { sources.new ≡ sources_after_test number sources.old test.now }
 {
     if let Test::Bind { attr, var } = test {
-        if let Some(source) = sources.get_mut(*var as usize) {
-            *source = Some(Source {
+        if (*var as usize) < sources.len() {
+            sources[*var as usize] = Some(Source {
                 condition: number,
                 attribute: *attr,
             });
@@ -132,24 +132,34 @@ fn part_of(
 {
     match test {
         Test::Bind { attr: _, var: _ } => Ok(Part::Nothing),
-        Test::Cmp {
-            attr,
-            pred,
-            arg: Arg::Con(value),
-        } => Ok(Part::Lone(LoneTest::Constant {
-            attribute: *attr,
-            predicate: *pred,
-            value: *value,
-        })),
-        Test::Cmp {
-            attr,
-            pred,
-            arg: Arg::Var(var),
-        } => Ok(comparison(alloc, number, *attr, *pred, source_of(sources, *var))),
+        Test::Cmp { attr, pred, arg } => {
+            Ok(part_of_comparison(alloc, number, *attr, *pred, *arg, sources))
+        }
         Test::OneOf { attr, among } => Ok(Part::Lone(LoneTest::OneOf {
             attribute: *attr,
             among: among.duplicate(alloc)?,
         })),
+    }
+}
+
+/// What a comparison becomes.
+fn part_of_comparison(
+    alloc: Global,
+    number: usize,
+    attribute: u32,
+    predicate: Pred,
+    arg: Arg,
+    sources: &[Option<Source>],
+) -> Part
+    ensures { Compares number attribute predicate arg sources.now result }
+{
+    match arg {
+        Arg::Con(value) => Part::Lone(LoneTest::Constant {
+            attribute,
+            predicate,
+            value,
+        }),
+        Arg::Var(var) => comparison(alloc, number, attribute, predicate, source_of(sources, var)),
     }
 }
 
