@@ -4,3 +4,8 @@ pub mod ReadingLemmas
 pub mod PartLemmas
 -- what condition elements become
 pub mod JoinLemmas
+-- what rules become, and what that means
+pub mod RuleLemmas
+pub mod RowLemmas
+pub mod MatchLemmas
+pub mod MeaningLemmas

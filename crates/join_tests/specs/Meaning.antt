@@ -31,5 +31,5 @@ pub record IsCompiled (rule : Rule) (compiled : Joins) : Type 0 where
   pub next_row : (n : ℕ) (join : Join) (es : List Element) (e : Element) → slice_get compiled.positives n ≡ Some join → is_some (matched (first_positives n rule) es (no_bindings rule.vars)) ≡ true →
       is_some (matched (first_positives (n + 1) rule) (es ++ e ∷ []) (no_bindings rule.vars)) ≡ joins join es e
   -- and the rule matches in a memory where, besides, no negated condition element has an element there that joins
-  pub match : (memory : Memory) (tags : List ℕ) (es : List Element) → map (element_at memory) tags ≡ map Some es →
+  pub match : (memory : Memory) (tags : List ℕ) (es : List Element) → map (element_at memory) tags ≡ map (λ (e : Element). Some e) es →
       is_ok (match_of rule tags memory) ≡ (are_joined compiled.positives es && list_all (is_free memory es) compiled.negated)
