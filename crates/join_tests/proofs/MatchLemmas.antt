@@ -18,7 +18,7 @@ use Rattle.join_tests.specs.Compiling.{IsJoin}
 use Rattle.join_tests.specs.Meaning.{is_free}
 use Rattle.join_tests.proofs.ReadingLemmas.{AreWithin, AreWithin-after_tests, AreWithin-none, bindings_at-none}
 use Rattle.join_tests.proofs.RuleLemmas.{Compiles, CompilesFirst}
-use Rattle.join_tests.proofs.RowLemmas.{accepts-joins, length-more}
+use Rattle.join_tests.proofs.RowLemmas.{accepts-joins, is_some_only_if, length-more}
 
 -- the tags are those of the elements
 abbrev AreAt : Memory → List ℕ → List Element → Type 0
@@ -28,10 +28,6 @@ AreAt memory tags es = map (element_at memory) tags ≡ map (λ (e : Element). S
 any_same : {X : Type 0} (p q : X → Bool) (xs : List X) → ((x : X) → p x ≡ q x) → list_any p xs ≡ list_any q xs
 any_same p q [] same = refl
 any_same p q (x ∷ xs) same = ap (λ b. b || list_any p xs) (same x) ∙ ap (λ b. q x || b) (any_same p q xs same)
-
-is_some_only_if : (b : Bool) (bindings : Bindings) → is_some (only_if b bindings) ≡ b
-is_some_only_if true bindings = refl
-is_some_only_if false bindings = refl
 
 -- the negated condition element accepts no element of the memory where none joins
 free : (number : ℕ) (before : Sources) (c : Cond) (n : Negated) (memory : Memory) (first es : List Element) → n.after ≡ number → IsJoin number before c n.join → length first ≡ number → AreWithin number before →

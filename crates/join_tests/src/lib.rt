@@ -7,6 +7,7 @@ mod compile;
 mod hashing;
 mod joins;
 mod joining;
+pub mod laws;
 mod row;
 
 pub use hashing::{element_hash, row_hash};
