@@ -9,6 +9,8 @@ mod joins;
 mod joining;
 pub mod laws;
 mod row;
+#[cfg(test)]
+mod tests;
 
 pub use hashing::{element_hash, row_hash};
 pub use joining::{passes, same_key, tests_hold};
