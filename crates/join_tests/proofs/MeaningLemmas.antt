@@ -1,5 +1,5 @@
 -- What a compiled rule means.
-use Rattle.std.proofs.Common.{◌≡◌, length, subst, arith}
+use Rattle.std.proofs.Common.{length, subst, arith}
 use Rattle.rule_base.specs.declared.program.Rule.{Rule}
 use Rattle.join_tests.specs.declared.joins.Joins.{Joins}
 use Rattle.join_tests.specs.Sources.{Sources, no_sources}

@@ -1,10 +1,10 @@
 -- Negated condition elements: where their joins stand, and what these ask.
-use Rattle.std.proofs.Common.{◌≡◌, ℕ, ◌+◌, ◌≤◌, List, [], ◌∷◌, ◌++◌, Bool, true, false, cond, not, filter, Option, Some, None, is_some, length, map, option_and_then, option_map, slice_get, refl, sym, ◌∙◌, ap, subst, arith, append_assoc, append-nil}
+use Rattle.std.proofs.Common.{◌≡◌, ℕ, ◌+◌, ◌≤◌, List, [], ◌∷◌, ◌++◌, Bool, true, false, cond, not, filter, Option, Some, is_some, length, map, option_and_then, option_map, slice_get, refl, sym, ◌∙◌, ap, subst, arith, append_assoc, append-nil}
 use Rattle.std.specs.List.{AllByRecursion}
 use Rattle.rule_base.specs.declared.element.Element.{Element}
 use Rattle.rule_base.specs.declared.condition.Cond.{Cond}
 use Rattle.rule_base.specs.Chains.{only_if}
-use Rattle.rule_base.specs.Bindings.{Bindings, no_bindings}
+use Rattle.rule_base.specs.Bindings.{Bindings}
 use Rattle.rule_base.specs.Acceptance.{accepts}
 use Rattle.rule_base.specs.ElementMatch.{after_element, matched}
 use Rattle.rule_base.specs.SoundConditions.{positive_classes}
@@ -103,7 +103,7 @@ asks_later number start c before further join negated first (x ∷ es) bindings 
     let b = bindings_at (sources_after_tests number start c.tests) row in
     let accepted = accepts-joins number start c join first x is long within in
     let goes : option_and_then (λ (left : List Element × Bindings). matched before left.0 left.1) (option_map (λ after. (es, after)) (only_if (joins join first x) b)) ≡ Some bindings =
-        ap (λ o. option_and_then (λ (left : List Element × Bindings). matched before left.0 left.1) (option_map (λ after. (es, after)) o)) (sym accepted) ∙ matches in
+    ap (λ o. option_and_then (λ (left : List Element × Bindings). matched before left.0 left.1) (option_map (λ after. (es, after)) o)) (sym accepted) ∙ matches in
     later row es (length-more number first x long) (taken (joins join first x) before es b bindings goes)
     ∙ ap (λ all. joins negated all e) (append_assoc first (x ∷ []) es)
 
@@ -134,8 +134,11 @@ is_there (c ∷ before) rest further number start js ns after sign within compil
 
 pub IsNegated-compiles : (vars : ℕ) (before rest : List Cond) (further : Cond) (js : List Join) (ns : List Negated) (after : Sources) → further.negated ≡ true → Compiles 0 (no_sources vars) (before ++ further ∷ rest) js ns after → (n : Negated) × (slice_get ns (negated_count before) ≡ Some n) × IsNegated vars before further n
 IsNegated-compiles vars before rest further js ns after sign compiles =
-    let there = is_there before rest further 0 (no_sources vars) js ns after sign (AreWithin-none vars) compiles in
-    (there.negated, there.at, record {
-      place = (let place = there.place in omega (arith, place));
-      asks = λ es bindings e matches. there.asks [] es bindings e refl (ap (matched before es) (bindings_at-none vars) ∙ matches);
-    })
+    let there = is_there before rest further 0 (no_sources vars) js ns after sign (AreWithin-none vars) compiles in (
+      there.negated,
+      there.at,
+      record {
+        place = (let place = there.place in omega (arith, place));
+        asks = λ es bindings e matches. there.asks [] es bindings e refl (ap (matched before es) (bindings_at-none vars) ∙ matches);
+      },
+    )

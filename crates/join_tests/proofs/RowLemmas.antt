@@ -1,12 +1,12 @@
 -- Rows: a rule takes elements where each joins those before it.
-use Rattle.std.proofs.Common.{◌≡◌, ℕ, ◌+◌, zero, suc, List, [], ◌∷◌, ◌++◌, Bool, true, false, ◌&&◌, cond, not, filter, Option, Some, None, is_some, length, option_and_then, option_map, slice_get, take, refl, sym, ◌∙◌, ap, subst, arith, length-append, append_assoc, append-nil}
+use Rattle.std.proofs.Common.{◌≡◌, ℕ, ◌+◌, zero, suc, List, [], ◌∷◌, ◌++◌, Bool, true, false, ◌&&◌, cond, not, filter, Some, is_some, length, option_and_then, option_map, slice_get, take, refl, sym, ◌∙◌, ap, subst, arith, length-append, append_assoc, append-nil}
 use Rattle.rule_base.specs.declared.element.Element.{Element}
 use Rattle.rule_base.specs.declared.condition.Cond.{Cond}
 use Rattle.rule_base.specs.declared.program.Rule.{Rule}
 use Rattle.rule_base.specs.Chains.{only_if}
 use Rattle.rule_base.specs.Bindings.{Bindings, no_bindings}
 use Rattle.rule_base.specs.Acceptance.{accepts}
-use Rattle.rule_base.specs.ElementMatch.{after_element, bindings_with, matched}
+use Rattle.rule_base.specs.ElementMatch.{after_element, matched}
 use Rattle.rule_base.proofs.StepByStepLemmas.{take_next}
 use Rattle.join_tests.specs.declared.joins.Join.{Join}
 use Rattle.join_tests.specs.declared.joins.Negated.{Negated}

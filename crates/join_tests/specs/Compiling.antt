@@ -10,8 +10,6 @@ use Rattle.rule_base.specs.declared.condition.Cond.{Cond}
 use Rattle.rule_base.specs.Chains.{only_if}
 use Rattle.rule_base.specs.Predicate.{holds}
 use Rattle.rule_base.specs.Acceptance.{accepts, after_test, compared_with}
-use Rattle.join_tests.specs.declared.joins.KeyPart.{KeyPart}
-use Rattle.join_tests.specs.declared.joins.JoinTest.{JoinTest}
 use Rattle.join_tests.specs.declared.joins.Join.{Join}
 use Rattle.join_tests.specs.declared.joins.Joins.{Joins}
 use Rattle.join_tests.specs.declared.joins.Source.{Source}

@@ -1,5 +1,5 @@
 -- Meaning: what a compiled rule says of its rule. Nothing is asked of the rule or of the elements.
-use Rattle.std.specs.Prelude.{◌≡◌, ℕ, ◌+◌, ◌≤◌, List, [], ◌∷◌, ◌++◌, Bool, true, false, not, ◌&&◌, Some, is_some, is_ok, filter, length, map, slice_get, take}
+use Rattle.std.specs.Prelude.{◌≡◌, ℕ, ◌+◌, ◌≤◌, List, [], ◌∷◌, ◌++◌, Bool, true, not, ◌&&◌, Some, is_some, is_ok, filter, length, map, slice_get, take}
 use Rattle.std.specs.List.{AllByRecursion, list_all, list_any}
 use Rattle.rule_base.specs.declared.element.Element.{Element}
 use Rattle.rule_base.specs.declared.condition.Cond.{Cond}

@@ -1,5 +1,5 @@
 -- Sources: where the variables of a rule have their values, by the variables' numbers.
-use Rattle.std.specs.Prelude.{◌≡◌, ℕ, List, Bool, true, false, Option, Some, None, fold, map, option_map, replicate, slice_get, slice_set}
+use Rattle.std.specs.Prelude.{ℕ, List, Option, Some, None, fold, map, option_map, replicate, slice_get, slice_set}
 use Rattle.std.specs.Option.{option_flatten}
 use Rattle.rule_base.specs.declared.element.Element.{Element}
 use Rattle.rule_base.specs.declared.condition.Test.{Test}

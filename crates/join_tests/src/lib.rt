@@ -5,8 +5,8 @@
 
 mod compile;
 mod hashing;
-mod joins;
 mod joining;
+mod joins;
 pub mod laws;
 mod row;
 #[cfg(test)]

@@ -6,12 +6,7 @@ use rule_base::{Arg, Cond, ElementView, Elements, Pred, Rule, Test, Value};
 use std::alloc::Global;
 use std::test::Fail;
 
-fn cond(
-    alloc: Global,
-    negated: bool,
-    class: u32,
-    tests: [Test; 3],
-) -> Result<Cond, OutOfMemory> {
+fn cond(alloc: Global, negated: bool, class: u32, tests: [Test; 3]) -> Result<Cond, OutOfMemory> {
     Ok(Cond {
         negated,
         class,
@@ -34,7 +29,11 @@ fn rule(alloc: Global) -> Result<Rule, OutOfMemory> {
         pred: Pred::Gt,
         arg: Arg::Con(Value::Int(3)),
     };
-    let first = [Test::Bind { attr: 0, var: 0 }, Test::Bind { attr: 1, var: 1 }, above];
+    let first = [
+        Test::Bind { attr: 0, var: 0 },
+        Test::Bind { attr: 1, var: 1 },
+        above,
+    ];
     let third = [
         compares(0, Pred::Eq, 0),
         Test::Bind { attr: 1, var: 2 },

@@ -12,5 +12,5 @@ returns c =
     let test = c.args.test.now in
     let join = c.args.join.now in
     let needs : (es : List Element) (e : Element) → joins c.need.new.self es e ≡ (joins join es e && nat_lt (attribute_of test) (length e.values)) =
-        λ es e. c.need.ensures es e ∙ ap (λ n. joins join es e && nat_lt n (length e.values)) c.attribute_of.ensures in
+    λ es e. c.need.ensures es e ∙ ap (λ n. joins join es e && nat_lt n (length e.values)) c.attribute_of.ensures in
     on_ok_weaker c.add.result (λ adds. AsksMore-part c.args.number c.args.sources.now test join c.need.new.self c.add.new.self c.in_ok-part.part c.in_ok-part.ensures needs adds) c.add.ensures
