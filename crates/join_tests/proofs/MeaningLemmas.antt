@@ -4,7 +4,7 @@ use Rattle.rule_base.specs.declared.program.Rule.{Rule}
 use Rattle.join_tests.specs.declared.joins.Joins.{Joins}
 use Rattle.join_tests.specs.Sources.{Sources, no_sources}
 use Rattle.join_tests.specs.Meaning.{IsCompiled}
-use Rattle.join_tests.proofs.RuleLemmas.{Compiles}
+use Rattle.join_tests.proofs.RuleLemmas.{Compiles, are_keyed}
 use Rattle.join_tests.proofs.RowLemmas.{matched-first, matched-joined, matched-next}
 use Rattle.join_tests.proofs.NegatedLemmas.{IsNegated-compiles, are_placed, length-compiled}
 use Rattle.join_tests.proofs.MatchLemmas.{match_of-joined}
@@ -18,5 +18,7 @@ IsCompiled-compiles rule compiled after compiles = record {
   negated = λ before rest further split sign.
       IsNegated-compiles rule.vars before rest further compiled.positives compiled.negated after sign (subst (λ conds. Compiles 0 (no_sources rule.vars) conds compiled.positives compiled.negated after) split compiles);
   places = are_placed rule.conds 0 (length compiled.positives) (no_sources rule.vars) compiled.positives compiled.negated after (omega arith) compiles;
-  match = λ memory tags es are_at. match_of-joined rule compiled.positives compiled.negated after memory tags es compiles are_at;
+  keyed = (are_keyed rule.conds 0 (no_sources rule.vars) compiled.positives compiled.negated after compiles).0;
+  keyed_negated = (are_keyed rule.conds 0 (no_sources rule.vars) compiled.positives compiled.negated after compiles).1;
+  matches = λ memory tags es are_at. match_of-joined rule compiled.positives compiled.negated after memory tags es compiles are_at;
 }

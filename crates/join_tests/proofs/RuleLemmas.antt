@@ -1,9 +1,11 @@
 -- What a rule's condition elements become, taken in one after another.
 use Rattle.std.proofs.Common.{◌≡◌, ℕ, ◌+◌, List, [], ◌∷◌, ◌++◌, Bool, true, false, length, refl, sym, ◌∙◌, ap, subst, arith}
+use Rattle.std.specs.List.{AllByRecursion}
 use Rattle.rule_base.specs.declared.condition.Cond.{Cond}
 use Rattle.join_tests.specs.declared.joins.Join.{Join}
 use Rattle.join_tests.specs.declared.joins.Joins.{Joins}
 use Rattle.join_tests.specs.declared.joins.Negated.{Negated}
+use Rattle.join_tests.specs.Joining.{HasWholeKey}
 use Rattle.join_tests.specs.Sources.{Sources, sources_after_tests}
 use Rattle.join_tests.specs.Compiling.{IsJoin, TakesIn}
 
@@ -93,3 +95,21 @@ by_sign false conds start further old new before after sign takes compiles =
 
 pub Compiles-TakesIn : (conds : List Cond) (start : Sources) (further : Cond) (old new : Joins) (before after : Sources) → TakesIn further.negated further old before new after → Compiles 0 start conds old.positives old.negated before → Compiles 0 start (conds ++ further ∷ []) new.positives new.negated after
 Compiles-TakesIn conds start further old new before after takes compiles = by_sign further.negated conds start further old new before after refl takes compiles
+
+-- every equality is a part of a key
+abbrev pub AreKeyed : List Join → List Negated → Type 0
+AreKeyed js ns = AllByRecursion HasWholeKey js × AllByRecursion (λ (n : Negated). HasWholeKey n.join) ns
+
+keyed_by_sign : (sign : Bool) (c : Cond) (conds : List Cond) (number : ℕ) (before : Sources) (js : List Join) (ns : List Negated) (after : Sources) →
+    ((number' : ℕ) (before' : Sources) (js' : List Join) (ns' : List Negated) → Compiles number' before' conds js' ns' after → AreKeyed js' ns') →
+    CompilesFirst sign number before c js ns (λ number' before' js' ns'. Compiles number' before' conds js' ns' after) → AreKeyed js ns
+keyed_by_sign true c conds number before js [] after rest compiles = absurd compiles
+keyed_by_sign true c conds number before js (n ∷ ns) after rest compiles = let later = rest number before js ns compiles.2 in (later.0, (compiles.1.keyed, later.1))
+keyed_by_sign false c conds number before [] ns after rest compiles = absurd compiles
+keyed_by_sign false c conds number before (join ∷ js) ns after rest compiles = let later = rest (number + 1) (sources_after_tests number before c.tests) js ns compiles.1 in ((compiles.0.keyed, later.0), later.1)
+
+pub are_keyed : (conds : List Cond) (number : ℕ) (before : Sources) (js : List Join) (ns : List Negated) (after : Sources) → Compiles number before conds js ns after → AreKeyed js ns
+are_keyed [] number before [] [] after compiles = (tt, tt)
+are_keyed [] number before [] (n ∷ ns) after compiles = absurd compiles
+are_keyed [] number before (join ∷ js) ns after compiles = absurd compiles
+are_keyed (c ∷ conds) number before js ns after compiles = keyed_by_sign c.negated c conds number before js ns after (λ number' before' js' ns'. are_keyed conds number' before' js' ns' after) compiles

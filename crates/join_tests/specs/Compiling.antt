@@ -8,7 +8,7 @@ use Rattle.rule_base.specs.declared.condition.Test.{Test}
 use Rattle.rule_base.specs.declared.condition.Test.TheVariants as test
 use Rattle.rule_base.specs.declared.condition.Cond.{Cond}
 use Rattle.rule_base.specs.Chains.{only_if}
-use Rattle.rule_base.specs.Predicate.{holds}
+use Rattle.rule_base.specs.Predicate.{holds, is_equality}
 use Rattle.rule_base.specs.Acceptance.{accepts, after_test, compared_with}
 use Rattle.join_tests.specs.declared.joins.Join.{Join}
 use Rattle.join_tests.specs.declared.joins.Joins.{Joins}
@@ -16,7 +16,7 @@ use Rattle.join_tests.specs.declared.joins.Source.{Source}
 use Rattle.join_tests.specs.declared.compile.Part.{Part}
 use Rattle.join_tests.specs.declared.compile.Part.TheVariants.{Nothing, Lone, Equal, Compare}
 use Rattle.join_tests.specs.Reading.{value_at, value_in}
-use Rattle.join_tests.specs.Joining.{joins, lone_holds, same_key, tests_hold}
+use Rattle.join_tests.specs.Joining.{HasWholeKey, joins, lone_holds, same_key, tests_hold}
 use Rattle.join_tests.specs.Sources.{Sources, bindings_at, sources_after_test, sources_after_tests}
 
 -- the attribute that a test looks at
@@ -31,6 +31,13 @@ part_holds es e Nothing = true
 part_holds es e (Lone t) = lone_holds e t
 part_holds es e (Equal part) = same_key (part ∷ []) es e
 part_holds es e (Compare t) = tests_hold (t ∷ []) es e
+
+-- the part is no equality outside the key
+abbrev pub IsKeyed : Part → Type 0
+IsKeyed Nothing = Unit {0}
+IsKeyed (Lone t) = Unit {0}
+IsKeyed (Equal part) = Unit {0}
+IsKeyed (Compare t) = is_equality t.predicate ≡ false
 
 -- the part compares the element's value at the attribute with the value at the source, and holds nowhere if there is
 -- no source; the element itself has this number
@@ -57,6 +64,7 @@ AsksMore number before t join more = (es : List Element) (e : Element) → lengt
 -- the elements before it, of which there are so many
 pub record IsJoin (number : ℕ) (before : Sources) (cond : Cond) (join : Join) : Type 0 where
   pub asks : (es : List Element) (e : Element) → length es ≡ number → accepts cond (bindings_at before (es ++ e ∷ [])) e ≡ only_if (joins join es e) (bindings_at (sources_after_tests number before cond.tests) (es ++ e ∷ []))
+  pub keyed : HasWholeKey join
 
 -- a condition element of either sign is taken in, with the sources before and after it: what a negated one binds is
 -- forgotten

@@ -13,7 +13,7 @@ use Rattle.rule_base.specs.Match.{match_of}
 use Rattle.join_tests.specs.declared.joins.Join.{Join}
 use Rattle.join_tests.specs.declared.joins.Joins.{Joins}
 use Rattle.join_tests.specs.declared.joins.Negated.{Negated}
-use Rattle.join_tests.specs.Joining.{are_joined, joins}
+use Rattle.join_tests.specs.Joining.{HasWholeKey, are_joined, joins}
 
 -- the first condition elements that are positive, so many of them
 abbrev pub first_positives : ℕ → Rule → List Cond
@@ -48,8 +48,11 @@ pub record IsCompiled (rule : Rule) (compiled : Joins) : Type 0 where
   -- each negated condition element has its own
   pub negated : (before rest : List Cond) (further : Cond) → rule.conds ≡ before ++ further ∷ rest → further.negated ≡ true →
       (n : Negated) × (slice_get compiled.negated (negated_count before) ≡ Some n) × IsNegated rule.vars before further n
-  -- none of which stands after the last positive one's place
+  -- and stands after no more positive ones than there are
   pub places : AllByRecursion (λ (n : Negated). n.after ≤ length compiled.positives) compiled.negated
-  -- and the rule matches in a memory where, besides, no negated condition element has an element there that joins
-  pub match : (memory : Memory) (tags : List ℕ) (es : List Element) → map (element_at memory) tags ≡ map (λ (e : Element). Some e) es →
+  -- what can be looked up by a key is part of it
+  pub keyed : AllByRecursion HasWholeKey compiled.positives
+  pub keyed_negated : AllByRecursion (λ (n : Negated). HasWholeKey n.join) compiled.negated
+  -- the rule matches in a memory where, besides, no negated condition element has an element there that joins
+  pub matches : (memory : Memory) (tags : List ℕ) (es : List Element) → map (element_at memory) tags ≡ map (λ (e : Element). Some e) es →
       is_ok (match_of rule tags memory) ≡ (are_joined compiled.positives es && list_all (is_free memory es) compiled.negated)

@@ -2,9 +2,9 @@
 
 ghost use Rattle.std.specs.Prelude.{◌≡◌, ◌&&◌, List, IfOk, OnOk, length, nat_lt, ◌==◌};
 ghost use Rattle.rule_base.specs.declared.element.Element.{Element};
-ghost use Rattle.join_tests.specs.Joining.{joins};
+ghost use Rattle.join_tests.specs.Joining.{HasWholeKey, joins};
 ghost use Rattle.join_tests.specs.Sources.{source_of, sources_after_test, sources_after_tests};
-ghost use Rattle.join_tests.specs.Compiling.{attribute_of, part_holds, AsksMore, Compares, IsComparison, IsJoin, IsPart, TakesIn};
+ghost use Rattle.join_tests.specs.Compiling.{attribute_of, part_holds, AsksMore, Compares, IsComparison, IsJoin, IsKeyed, IsPart, TakesIn};
 ghost use Rattle.join_tests.specs.Meaning.{IsCompiled};
 
 use crate::{Join, JoinTest, Joins, KeyPart, LoneTest, Negated, Pattern, Source};
@@ -85,7 +85,8 @@ fn add_test(
     join: &mut Join,
     sources: &[Option<Source>],
 ) -> Result<(), OutOfMemory>
-    ensures { OnOk result (AsksMore number sources.now test.now join.old join.new) }
+    ensures asks { OnOk result (AsksMore number sources.now test.now join.old join.new) }
+    ensures keyed { OnOk result (HasWholeKey join.old → HasWholeKey join.new) }
 {
     let part = part_of(alloc, test, number, sources)?;
     join.need(attribute_of(test));
@@ -128,7 +129,8 @@ fn part_of(
     number: usize,
     sources: &[Option<Source>],
 ) -> Result<Part, OutOfMemory>
-    ensures { IfOk result (IsPart number sources.now test.now) }
+    ensures part { IfOk result (IsPart number sources.now test.now) }
+    ensures keyed { IfOk result IsKeyed }
 {
     match test {
         Test::Bind { attr: _, var: _ } => Ok(Part::Nothing),
@@ -151,7 +153,8 @@ fn part_of_comparison(
     arg: Arg,
     sources: &[Option<Source>],
 ) -> Part
-    ensures { Compares number attribute predicate arg sources.now result }
+    ensures compares { Compares number attribute predicate arg sources.now result }
+    ensures keyed { IsKeyed result }
 {
     match arg {
         Arg::Con(value) => Part::Lone(LoneTest::Constant {
@@ -182,7 +185,8 @@ fn comparison(
     predicate: Pred,
     source: Option<Source>,
 ) -> Part
-    ensures { IsComparison number attribute predicate source result }
+    ensures compares { IsComparison number attribute predicate source result }
+    ensures keyed { IsKeyed result }
 {
     match source {
         None => Part::Lone(LoneTest::OneOf {
@@ -212,7 +216,8 @@ fn comparison(
 impl Join {
     /// A join that asks for the class alone.
     fn new(alloc: Global, class: u32) -> Join
-        ensures { (es : List Element) (e : Element) → joins result es e ≡ (class == e.class) }
+        ensures asks { (es : List Element) (e : Element) → joins result es e ≡ (class == e.class) }
+        ensures keyed { HasWholeKey result }
     {
         Join {
             pattern: Pattern {
@@ -227,8 +232,9 @@ impl Join {
 
     /// Asks for a value at this attribute, besides.
     fn need(&mut self, attribute: u32)
-        ensures { (es : List Element) (e : Element) → joins self.new es e
+        ensures asks { (es : List Element) (e : Element) → joins self.new es e
             ≡ (joins self.old es e && nat_lt attribute (length e.values)) }
+        ensures same { self.new.tests ≡ self.old.tests }
     {
         let size = attribute as usize + 1;
         if self.pattern.size < size {
@@ -238,8 +244,9 @@ impl Join {
 
     /// Asks for the part, besides.
     fn add(&mut self, part: Part) -> Result<(), OutOfMemory>
-        ensures { OnOk result ((es : List Element) (e : Element) → joins self.new es e
+        ensures asks { OnOk result ((es : List Element) (e : Element) → joins self.new es e
             ≡ (joins self.old es e && part_holds es e part)) }
+        ensures keyed { OnOk result (HasWholeKey self.old → IsKeyed part → HasWholeKey self.new) }
     {
         match part {
             Part::Nothing => Ok(()),

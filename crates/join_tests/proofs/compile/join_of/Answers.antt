@@ -16,8 +16,8 @@ loop-test-preserved c =
     let so_far = take i cond.tests in
     let more : take (i + 1) cond.tests ≡ so_far ++ t ∷ [] = take_to_place cond.tests i t (search rules) (c.test-item.is ∙ ap (λ ts. get_or ts i t) c.as_slice-test-items.ensures) in
     let sources = c.loop-test.invariant.sources_are in
-    let asks : AsksMore number (sources_after_tests number before so_far) t c.loop-test.join c.add_test.new.join = subst (λ s. AsksMore number s t c.loop-test.join c.add_test.new.join) sources c.in_ok-add_test.ensures in
+    let asks : AsksMore number (sources_after_tests number before so_far) t c.loop-test.join c.add_test.new.join = subst (λ s. AsksMore number s t c.loop-test.join c.add_test.new.join) sources c.in_ok-add_test.ensures.asks in
     record {
-      join_is = subst (λ tests. IsJoin number before (record cond { tests = tests }) c.add_test.new.join) (sym more) (IsJoin-push number before cond so_far t c.loop-test.join c.add_test.new.join c.loop-test.invariant.join_is asks);
+      join_is = subst (λ tests. IsJoin number before (record cond { tests = tests }) c.add_test.new.join) (sym more) (IsJoin-push number before cond so_far t c.loop-test.join c.add_test.new.join c.loop-test.invariant.join_is asks c.in_ok-add_test.ensures.keyed);
       sources_are = c.bind.ensures ∙ ap (λ s. sources_after_test number s t) sources ∙ sym (sources_after_tests-push number before so_far t) ∙ ap (sources_after_tests number before) (sym more);
     }
