@@ -1,5 +1,5 @@
--- Keys: equal values, and so equal hashes.
-use Rattle.std.proofs.Common.{◌≡◌, ◌↔◌, List, [], ◌∷◌, Bool, true, false, ◌&&◌, refl, ◌∙◌, ap}
+-- Keys, and what joins read: equal values have equal hashes, and what comes after those that are read changes nothing.
+use Rattle.std.proofs.Common.{◌≡◌, ◌↔◌, ◌<◌, List, [], ◌∷◌, ◌++◌, Bool, true, false, ◌&&◌, length, refl, ◌∙◌, ap}
 use Rattle.std.proofs.lemmas.Bool.Decides.{Decides-eqb, Decides-int_eq}
 use Rattle.rule_base.specs.declared.value.Value.{Value}
 use Rattle.rule_base.specs.declared.value.Value.TheVariants.{Int, Sym}
@@ -7,8 +7,12 @@ use Rattle.rule_base.specs.declared.element.Element.{Element}
 use Rattle.rule_base.specs.Value.{same_value}
 use Rattle.join_tests.specs.declared.joins.KeyPart.{KeyPart}
 use Rattle.join_tests.specs.declared.joins.Join.{Join}
+use Rattle.join_tests.specs.declared.joins.JoinTest.{JoinTest}
+use Rattle.join_tests.proofs.ReadingLemmas.{value_in-first}
+use Rattle.rule_base.specs.Predicate.{holds}
+use Rattle.std.specs.List.{AllByRecursion, list_all}
 use Rattle.join_tests.specs.Reading.{value_at, value_in}
-use Rattle.join_tests.specs.Joining.{joins, key_of_element, key_of_row, passes, same_key, tests_hold}
+use Rattle.join_tests.specs.Joining.{IsOther, LooksBack, joins, key_of_element, key_of_row, passes, same_key, tests_hold}
 use Rattle.join_tests.specs.Hashing.{hash_of}
 
 same_value-equal : (a b : Value) → same_value a b ≡ true → a ≡ b
@@ -48,3 +52,22 @@ pub hash-joins : (join : Join) (es : List Element) (e : Element) → joins join 
 hash-joins join es e is =
     let first = both (passes join.pattern e && same_key join.key es e) (tests_hold join.tests es e) is in
     ap hash_of (equal_values join.key es e (both (passes join.pattern e) (same_key join.key es e) first.0).1)
+
+-- tests that answer the same of each that is there
+all_same : {X : Type 0} (P : X → Type 0) (p q : X → Bool) (xs : List X) → ((x : X) → P x → p x ≡ q x) → AllByRecursion P xs → list_all p xs ≡ list_all q xs
+all_same P p q [] same each = refl
+all_same P p q (x ∷ xs) same each = ap (λ b. b && list_all p xs) (same x each.0) ∙ ap (λ b. q x && b) (all_same P p q xs same each.1)
+
+-- a join doesn't see what comes after the elements that it looks back at
+pub joins-more : (join : Join) (es more : List Element) (e : Element) → LooksBack (length es) join → joins join (es ++ more) e ≡ joins join es e
+joins-more join es more e back =
+    let same_part : (part : KeyPart) → part.source.condition < length es → same_value (value_at e part.attribute) (value_in (es ++ more) part.source) ≡ same_value (value_at e part.attribute) (value_in es part.source) =
+    λ part lt. ap (same_value (value_at e part.attribute)) (value_in-first es more part.source lt) in
+    let same_test : (t : JoinTest) → IsOther (length es) t → holds t.predicate (value_at e t.attribute) (value_in (es ++ more) t.source) ≡ holds t.predicate (value_at e t.attribute) (value_in es t.source) =
+    λ t other. ap (holds t.predicate (value_at e t.attribute)) (value_in-first es more t.source other.0) in
+    let keys : same_key join.key (es ++ more) e ≡ same_key join.key es e =
+    all_same (λ (part : KeyPart). part.source.condition < length es) (λ (part : KeyPart). same_value (value_at e part.attribute) (value_in (es ++ more) part.source)) (λ (part : KeyPart). same_value (value_at e part.attribute) (value_in es part.source)) join.key same_part back.key in
+    let tests : tests_hold join.tests (es ++ more) e ≡ tests_hold join.tests es e =
+    all_same (IsOther (length es)) (λ (t : JoinTest). holds t.predicate (value_at e t.attribute) (value_in (es ++ more) t.source)) (λ (t : JoinTest). holds t.predicate (value_at e t.attribute) (value_in es t.source)) join.tests same_test back.tests in
+    ap (λ b. (passes join.pattern e && b) && tests_hold join.tests (es ++ more) e) keys
+    ∙ ap (λ b. (passes join.pattern e && same_key join.key es e) && b) tests

@@ -13,10 +13,10 @@ use Rattle.rule_base.specs.Match.{accepts_some, after_cond, go_on, match_from, m
 use Rattle.join_tests.specs.declared.joins.Join.{Join}
 use Rattle.join_tests.specs.declared.joins.Negated.{Negated}
 use Rattle.join_tests.specs.Joining.{are_joined, each_joins, joins}
-use Rattle.join_tests.specs.Sources.{Sources, bindings_at, no_sources, sources_after_tests}
+use Rattle.join_tests.specs.Sources.{AreWithin, Sources, bindings_at, no_sources, sources_after_tests}
 use Rattle.join_tests.specs.Compiling.{IsJoin}
 use Rattle.join_tests.specs.Meaning.{is_free}
-use Rattle.join_tests.proofs.ReadingLemmas.{AreWithin, AreWithin-after_tests, AreWithin-none, bindings_at-none}
+use Rattle.join_tests.proofs.ReadingLemmas.{AreWithin-after_tests, AreWithin-none, bindings_at-none}
 use Rattle.join_tests.proofs.RuleLemmas.{Compiles, CompilesFirst}
 use Rattle.join_tests.proofs.RowLemmas.{accepts-joins, is_some_only_if, length-more}
 

@@ -1,10 +1,12 @@
 -- What a compiled rule means.
-use Rattle.std.proofs.Common.{length, subst, arith}
+use Rattle.std.proofs.Common.{◌≡◌, ◌+◌, length, subst, arith}
 use Rattle.rule_base.specs.declared.program.Rule.{Rule}
 use Rattle.join_tests.specs.declared.joins.Joins.{Joins}
 use Rattle.join_tests.specs.Sources.{Sources, no_sources}
 use Rattle.join_tests.specs.Meaning.{IsCompiled}
-use Rattle.join_tests.proofs.RuleLemmas.{Compiles, are_keyed}
+use Rattle.join_tests.proofs.RuleLemmas.{Compiles, look_back}
+use Rattle.join_tests.proofs.ReadingLemmas.{AreWithin-none}
+use Rattle.join_tests.specs.Joining.{LooksBack}
 use Rattle.join_tests.proofs.RowLemmas.{matched-first, matched-joined, matched-next}
 use Rattle.join_tests.proofs.NegatedLemmas.{IsNegated-compiles, are_placed, length-compiled}
 use Rattle.join_tests.proofs.MatchLemmas.{match_of-joined}
@@ -18,7 +20,9 @@ IsCompiled-compiles rule compiled after compiles = record {
   negated = λ before rest further split sign.
       IsNegated-compiles rule.vars before rest further compiled.positives compiled.negated after sign (subst (λ conds. Compiles 0 (no_sources rule.vars) conds compiled.positives compiled.negated after) split compiles);
   places = are_placed rule.conds 0 (length compiled.positives) (no_sources rule.vars) compiled.positives compiled.negated after (omega arith) compiles;
-  keyed = (are_keyed rule.conds 0 (no_sources rule.vars) compiled.positives compiled.negated after compiles).0;
-  keyed_negated = (are_keyed rule.conds 0 (no_sources rule.vars) compiled.positives compiled.negated after compiles).1;
+  looks_back = λ n join at.
+      let place : 0 + n ≡ n = omega arith in
+      subst (λ m. LooksBack m join) place ((look_back rule.conds 0 (no_sources rule.vars) compiled.positives compiled.negated after (AreWithin-none rule.vars) compiles).positives n join at);
+  negated_look_back = (look_back rule.conds 0 (no_sources rule.vars) compiled.positives compiled.negated after (AreWithin-none rule.vars) compiles).negated;
   matches = λ memory tags es are_at. match_of-joined rule compiled.positives compiled.negated after memory tags es compiles are_at;
 }

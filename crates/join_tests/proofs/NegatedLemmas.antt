@@ -11,10 +11,10 @@ use Rattle.rule_base.specs.SoundConditions.{positive_classes}
 use Rattle.join_tests.specs.declared.joins.Join.{Join}
 use Rattle.join_tests.specs.declared.joins.Negated.{Negated}
 use Rattle.join_tests.specs.Joining.{joins}
-use Rattle.join_tests.specs.Sources.{Sources, bindings_at, no_sources, sources_after_tests}
+use Rattle.join_tests.specs.Sources.{AreWithin, Sources, bindings_at, no_sources, sources_after_tests}
 use Rattle.join_tests.specs.Compiling.{IsJoin}
 use Rattle.join_tests.specs.Meaning.{IsNegated, negated_count}
-use Rattle.join_tests.proofs.ReadingLemmas.{AreWithin, AreWithin-after_tests, AreWithin-none, bindings_at-none}
+use Rattle.join_tests.proofs.ReadingLemmas.{AreWithin-after_tests, AreWithin-none, bindings_at-none}
 use Rattle.join_tests.proofs.RuleLemmas.{Compiles, CompilesFirst}
 use Rattle.join_tests.proofs.RowLemmas.{accepts-joins, is_some_only_if, length-more}
 

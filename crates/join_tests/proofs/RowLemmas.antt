@@ -11,10 +11,10 @@ use Rattle.rule_base.proofs.StepByStepLemmas.{take_next}
 use Rattle.join_tests.specs.declared.joins.Join.{Join}
 use Rattle.join_tests.specs.declared.joins.Negated.{Negated}
 use Rattle.join_tests.specs.Joining.{are_joined, each_joins, joins}
-use Rattle.join_tests.specs.Sources.{Sources, bindings_at, no_sources, sources_after_tests}
+use Rattle.join_tests.specs.Sources.{AreWithin, Sources, bindings_at, no_sources, sources_after_tests}
 use Rattle.join_tests.specs.Compiling.{IsJoin}
 use Rattle.join_tests.specs.Meaning.{first_positives}
-use Rattle.join_tests.proofs.ReadingLemmas.{AreWithin, AreWithin-after_tests, AreWithin-none, bindings_at-none, bindings_at-push}
+use Rattle.join_tests.proofs.ReadingLemmas.{AreWithin-after_tests, AreWithin-none, bindings_at-none, bindings_at-push}
 use Rattle.join_tests.proofs.RuleLemmas.{Compiles, CompilesFirst}
 
 -- one element more

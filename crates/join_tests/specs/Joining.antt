@@ -1,5 +1,5 @@
 -- Joining: when an element joins elements for the positive condition elements before its own.
-use Rattle.std.specs.Prelude.{◌≡◌, List, [], ◌∷◌, ◌++◌, Bool, true, false, ◌&&◌, ◌==◌, nat_le, length, map}
+use Rattle.std.specs.Prelude.{◌≡◌, ℕ, ◌<◌, List, [], ◌∷◌, ◌++◌, Bool, true, false, ◌&&◌, ◌==◌, nat_le, length, map}
 use Rattle.std.specs.List.{AllByRecursion, list_all, list_any}
 use Rattle.rule_base.specs.declared.value.Value.{Value}
 use Rattle.rule_base.specs.declared.element.Element.{Element}
@@ -43,9 +43,14 @@ same_key key es e = list_all (λ (part : KeyPart). same_value (value_at e part.a
 abbrev pub tests_hold : List JoinTest → List Element → Element → Bool
 tests_hold tests es e = list_all (λ (t : JoinTest). holds t.predicate (value_at e t.attribute) (value_in es t.source)) tests
 
--- every equality with the elements before it is a part of the key
-abbrev pub HasWholeKey : Join → Type 0
-HasWholeKey join = AllByRecursion (λ (t : JoinTest). is_equality t.predicate ≡ false) join.tests
+-- a comparison with elements for so many condition elements that is no equality
+abbrev pub IsOther : ℕ → JoinTest → Type 0
+IsOther number t = (t.source.condition < number) × (is_equality t.predicate ≡ false)
+
+-- the join looks back at the elements for so many condition elements, and every equality with them is a part of its key
+pub record LooksBack (number : ℕ) (join : Join) : Type 0 where
+  pub key : AllByRecursion (λ (part : KeyPart). part.source.condition < number) join.key
+  pub tests : AllByRecursion (IsOther number) join.tests
 
 -- whether the element joins these
 abbrev pub joins : Join → List Element → Element → Bool

@@ -13,7 +13,7 @@ use Rattle.rule_base.specs.Match.{match_of}
 use Rattle.join_tests.specs.declared.joins.Join.{Join}
 use Rattle.join_tests.specs.declared.joins.Joins.{Joins}
 use Rattle.join_tests.specs.declared.joins.Negated.{Negated}
-use Rattle.join_tests.specs.Joining.{HasWholeKey, are_joined, joins}
+use Rattle.join_tests.specs.Joining.{LooksBack, are_joined, joins}
 
 -- the first condition elements that are positive, so many of them
 abbrev pub first_positives : ℕ → Rule → List Cond
@@ -50,9 +50,9 @@ pub record IsCompiled (rule : Rule) (compiled : Joins) : Type 0 where
       (n : Negated) × (slice_get compiled.negated (negated_count before) ≡ Some n) × IsNegated rule.vars before further n
   -- and stands after no more positive ones than there are
   pub places : AllByRecursion (λ (n : Negated). n.after ≤ length compiled.positives) compiled.negated
-  -- what can be looked up by a key is part of it
-  pub keyed : AllByRecursion HasWholeKey compiled.positives
-  pub keyed_negated : AllByRecursion (λ (n : Negated). HasWholeKey n.join) compiled.negated
+  -- each looks back at the elements before its own
+  pub looks_back : (n : ℕ) (join : Join) → slice_get compiled.positives n ≡ Some join → LooksBack n join
+  pub negated_look_back : AllByRecursion (λ (n : Negated). LooksBack n.after n.join) compiled.negated
   -- the rule matches in a memory where, besides, no negated condition element has an element there that joins
   pub matches : (memory : Memory) (tags : List ℕ) (es : List Element) → map (element_at memory) tags ≡ map (λ (e : Element). Some e) es →
       is_ok (match_of rule tags memory) ≡ (are_joined compiled.positives es && list_all (is_free memory es) compiled.negated)

@@ -1,10 +1,10 @@
 //! Rules as joins: each variable is read at the element that bound it.
 
-ghost use Rattle.std.specs.Prelude.{◌≡◌, ◌&&◌, List, IfOk, OnOk, length, nat_lt, ◌==◌};
+ghost use Rattle.std.specs.Prelude.{◌≡◌, ℕ, ◌+◌, ◌&&◌, List, IfOk, OnOk, length, nat_lt, ◌==◌};
 ghost use Rattle.rule_base.specs.declared.element.Element.{Element};
-ghost use Rattle.join_tests.specs.Joining.{HasWholeKey, joins};
-ghost use Rattle.join_tests.specs.Sources.{source_of, sources_after_test, sources_after_tests};
-ghost use Rattle.join_tests.specs.Compiling.{attribute_of, part_holds, AsksMore, Compares, IsComparison, IsJoin, IsKeyed, IsPart, TakesIn};
+ghost use Rattle.join_tests.specs.Joining.{LooksBack, joins};
+ghost use Rattle.join_tests.specs.Sources.{AreWithin, IsWithin, source_of, sources_after_test, sources_after_tests};
+ghost use Rattle.join_tests.specs.Compiling.{attribute_of, part_holds, AsksMore, Compares, IsComparison, IsJoin, PartLooksBack, IsPart, TakesIn};
 ghost use Rattle.join_tests.specs.Meaning.{IsCompiled};
 
 use crate::{Join, JoinTest, Joins, KeyPart, LoneTest, Negated, Pattern, Source};
@@ -86,7 +86,8 @@ fn add_test(
     sources: &[Option<Source>],
 ) -> Result<(), OutOfMemory>
     ensures asks { OnOk result (AsksMore number sources.now test.now join.old join.new) }
-    ensures keyed { OnOk result (HasWholeKey join.old → HasWholeKey join.new) }
+    ensures back { OnOk result (AreWithin (number + 1) sources.now
+        → LooksBack number join.old → LooksBack number join.new) }
 {
     let part = part_of(alloc, test, number, sources)?;
     join.need(attribute_of(test));
@@ -130,7 +131,7 @@ fn part_of(
     sources: &[Option<Source>],
 ) -> Result<Part, OutOfMemory>
     ensures part { IfOk result (IsPart number sources.now test.now) }
-    ensures keyed { IfOk result IsKeyed }
+    ensures back { IfOk result (λ part. AreWithin (number + 1) sources.now → PartLooksBack number part) }
 {
     match test {
         Test::Bind { attr: _, var: _ } => Ok(Part::Nothing),
@@ -154,7 +155,7 @@ fn part_of_comparison(
     sources: &[Option<Source>],
 ) -> Part
     ensures compares { Compares number attribute predicate arg sources.now result }
-    ensures keyed { IsKeyed result }
+    ensures back { AreWithin (number + 1) sources.now → PartLooksBack number result }
 {
     match arg {
         Arg::Con(value) => Part::Lone(LoneTest::Constant {
@@ -186,7 +187,7 @@ fn comparison(
     source: Option<Source>,
 ) -> Part
     ensures compares { IsComparison number attribute predicate source result }
-    ensures keyed { IsKeyed result }
+    ensures back { IsWithin (number + 1) source → PartLooksBack number result }
 {
     match source {
         None => Part::Lone(LoneTest::OneOf {
@@ -217,7 +218,7 @@ impl Join {
     /// A join that asks for the class alone.
     fn new(alloc: Global, class: u32) -> Join
         ensures asks { (es : List Element) (e : Element) → joins result es e ≡ (class == e.class) }
-        ensures keyed { HasWholeKey result }
+        ensures back { (n : ℕ) → LooksBack n result }
     {
         Join {
             pattern: Pattern {
@@ -234,7 +235,7 @@ impl Join {
     fn need(&mut self, attribute: u32)
         ensures asks { (es : List Element) (e : Element) → joins self.new es e
             ≡ (joins self.old es e && nat_lt attribute (length e.values)) }
-        ensures same { self.new.tests ≡ self.old.tests }
+        ensures back { (n : ℕ) → LooksBack n self.old → LooksBack n self.new }
     {
         let size = attribute as usize + 1;
         if self.pattern.size < size {
@@ -246,7 +247,7 @@ impl Join {
     fn add(&mut self, part: Part) -> Result<(), OutOfMemory>
         ensures asks { OnOk result ((es : List Element) (e : Element) → joins self.new es e
             ≡ (joins self.old es e && part_holds es e part)) }
-        ensures keyed { OnOk result (HasWholeKey self.old → IsKeyed part → HasWholeKey self.new) }
+        ensures back { OnOk result ((n : ℕ) → LooksBack n self.old → PartLooksBack n part → LooksBack n self.new) }
     {
         match part {
             Part::Nothing => Ok(()),

@@ -1,6 +1,6 @@
 //! Laws of the definitions. Each function here does nothing: its contract is the law.
 
-ghost use Rattle.join_tests.specs.JoinLaws.{HashesAreEqual, KeysAreEqual, RowsGrow};
+ghost use Rattle.join_tests.specs.JoinLaws.{HashesAreEqual, KeysAreEqual, RowsGoOn, RowsGrow};
 
 /// Equal keys are equal values, and have equal hashes.
 pub fn keys_find_what_joins()
@@ -8,7 +8,8 @@ pub fn keys_find_what_joins()
     ensures hashes { HashesAreEqual }
 {}
 
-/// A row grows by an element that joins it.
+/// A row grows by an element that joins it, which says nothing new of what was there.
 pub fn rows_grow()
-    ensures { RowsGrow }
+    ensures grow { RowsGrow }
+    ensures go_on { RowsGoOn }
 {}
