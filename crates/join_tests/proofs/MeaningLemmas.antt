@@ -8,12 +8,13 @@ use Rattle.join_tests.proofs.RuleLemmas.{Compiles, look_back}
 use Rattle.join_tests.proofs.ReadingLemmas.{AreWithin-none}
 use Rattle.join_tests.specs.Joining.{LooksBack}
 use Rattle.join_tests.proofs.RowLemmas.{matched-first, matched-joined, matched-next}
-use Rattle.join_tests.proofs.NegatedLemmas.{IsNegated-compiles, are_placed, length-compiled}
+use Rattle.join_tests.proofs.NegatedLemmas.{IsNegated-compiles, are_placed, length-compiled, negated_count-compiled}
 use Rattle.join_tests.proofs.MatchLemmas.{match_of-joined}
 
 pub IsCompiled-compiles : (rule : Rule) (compiled : Joins) (after : Sources) → Compiles 0 (no_sources rule.vars) rule.conds compiled.positives compiled.negated after → IsCompiled rule compiled
 IsCompiled-compiles rule compiled after compiles = record {
   count = length-compiled rule.conds 0 (no_sources rule.vars) compiled.positives compiled.negated after compiles;
+  count_negated = negated_count-compiled rule.conds 0 (no_sources rule.vars) compiled.positives compiled.negated after compiles;
   rows = λ es. matched-joined rule.vars rule.conds compiled.positives compiled.negated after es compiles;
   first_rows = λ n es. matched-first rule compiled.positives compiled.negated after n es compiles;
   next_row = λ n join es e at is. matched-next rule compiled.positives compiled.negated after n join es e compiles at is;

@@ -41,6 +41,22 @@ length-compiled [] number before (join ∷ js) ns after compiles = absurd compil
 length-compiled (c ∷ conds) number before js ns after compiles =
     length_by_sign c.negated c conds number before js ns after (λ number' before' js' ns'. length-compiled conds number' before' js' ns' after) compiles
 
+-- and as many negated ones
+negated_length_by_sign : (sign : Bool) (c : Cond) (conds : List Cond) (number : ℕ) (before : Sources) (js : List Join) (ns : List Negated) (after : Sources) →
+    ((number' : ℕ) (before' : Sources) (js' : List Join) (ns' : List Negated) → Compiles number' before' conds js' ns' after → length ns' ≡ negated_count conds) →
+    CompilesFirst sign number before c js ns (λ number' before' js' ns'. Compiles number' before' conds js' ns' after) → length ns ≡ negated_by sign c conds
+negated_length_by_sign true c conds number before js [] after rest compiles = absurd compiles
+negated_length_by_sign true c conds number before js (n ∷ ns) after rest compiles = let later = rest number before js ns compiles.2 in omega (arith, later)
+negated_length_by_sign false c conds number before [] ns after rest compiles = absurd compiles
+negated_length_by_sign false c conds number before (join ∷ js) ns after rest compiles = rest (number + 1) (sources_after_tests number before c.tests) js ns compiles.1
+
+pub negated_count-compiled : (conds : List Cond) (number : ℕ) (before : Sources) (js : List Join) (ns : List Negated) (after : Sources) → Compiles number before conds js ns after → length ns ≡ negated_count conds
+negated_count-compiled [] number before [] [] after compiles = refl
+negated_count-compiled [] number before [] (n ∷ ns) after compiles = absurd compiles
+negated_count-compiled [] number before (join ∷ js) ns after compiles = absurd compiles
+negated_count-compiled (c ∷ conds) number before js ns after compiles =
+    negated_length_by_sign c.negated c conds number before js ns after (λ number' before' js' ns'. negated_count-compiled conds number' before' js' ns' after) compiles
+
 -- no negated one stands after the last place
 abbrev ArePlaced : ℕ → List Negated → Type 0
 ArePlaced last ns = AllByRecursion (λ (n : Negated). n.after ≤ last) ns

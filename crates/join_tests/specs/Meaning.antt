@@ -36,8 +36,9 @@ pub record IsNegated (vars : ℕ) (before : List Cond) (further : Cond) (n : Neg
 
 -- the joins are those of the rule
 pub record IsCompiled (rule : Rule) (compiled : Joins) : Type 0 where
-  -- there is a join for each positive condition element
+  -- there is a join for each positive condition element, and one for each negated one
   pub count : length compiled.positives ≡ length (positive_classes rule.conds)
+  pub count_negated : length compiled.negated ≡ negated_count rule.conds
   -- the rule takes these elements where each joins those before it
   pub rows : (es : List Element) → is_some (bindings_with rule es) ≡ are_joined compiled.positives es
   -- so do so many of its first positive condition elements
@@ -45,7 +46,7 @@ pub record IsCompiled (rule : Rule) (compiled : Joins) : Type 0 where
   -- one element more is taken where it joins
   pub next_row : (n : ℕ) (join : Join) (es : List Element) (e : Element) → slice_get compiled.positives n ≡ Some join → is_some (matched (first_positives n rule) es (no_bindings rule.vars)) ≡ true →
       is_some (matched (first_positives (n + 1) rule) (es ++ e ∷ []) (no_bindings rule.vars)) ≡ joins join es e
-  -- each negated condition element has its join
+  -- a negated condition element has its join at its place among them
   pub negated : (before rest : List Cond) (further : Cond) → rule.conds ≡ before ++ further ∷ rest → further.negated ≡ true →
       (n : Negated) × (slice_get compiled.negated (negated_count before) ≡ Some n) × IsNegated rule.vars before further n
   -- which stands after no more positive ones than there are
