@@ -13,6 +13,6 @@ mod row;
 mod tests;
 
 pub use hashing::{element_hash, mixed, row_hash};
-pub use joining::{passes, same_key, tests_hold};
+pub use joining::{passes, same_key, tests_hold, value_at};
 pub use joins::{Join, JoinTest, Joins, KeyPart, LoneTest, Negated, Pattern, Source};
 pub use row::Row;

@@ -1,0 +1,4 @@
+-- how often something is in a list
+pub mod TimesLemmas
+-- one more number under a hash
+pub mod ListingLemmas
