@@ -2,3 +2,5 @@
 pub mod TimesLemmas
 -- one more number under a hash
 pub mod ListingLemmas
+-- one store changes, or several
+pub mod ChangeLemmas

@@ -4,6 +4,7 @@ ghost use Rattle.std.specs.Prelude.{◌≡◌, ◌↔◌, IsTrue};
 ghost use Rattle.alpha_memory.specs.Stores.{attributes_of};
 
 use join_tests::{KeyPart, LoneTest, Pattern};
+use rule_base::Value;
 
 /// Whether both are the same pattern.
 pub(crate) fn same_pattern(a: &Pattern, b: &Pattern) -> bool
@@ -52,7 +53,9 @@ fn same_test(a: &LoneTest, b: &LoneTest) -> bool
                 attribute: other_attribute,
                 among: other_among,
             },
-        ) => attribute == other_attribute && among.as_slice() == other_among.as_slice(),
+        ) => {
+            attribute == other_attribute && same_values(among.as_slice(), other_among.as_slice())
+        }
         (
             LoneTest::Within {
                 attribute,
@@ -69,6 +72,21 @@ fn same_test(a: &LoneTest, b: &LoneTest) -> bool
         }
         _ => false,
     }
+}
+
+/// Whether both are the same values, in the same order.
+fn same_values(a: &[Value], b: &[Value]) -> bool
+    ensures { IsTrue result ↔ (a.now ≡ b.now) }
+{
+    if a.len() != b.len() {
+        return false;
+    }
+    for at in 0..a.len() {
+        if a[at] != b[at] {
+            return false;
+        }
+    }
+    true
 }
 
 /// Whether both keys have the same attributes, in the same order.

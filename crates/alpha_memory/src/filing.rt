@@ -1,11 +1,10 @@
 //! Which stores let an element in, and filing it there.
 
-ghost use Rattle.std.specs.Prelude.{◌≡◌, ℕ, ◌++◌, ◌↔◌, Some, None, IfSome, IsTrue, OnErr, OnOk, filter, map, take};
+ghost use Rattle.std.specs.Prelude.{◌≡◌, ℕ, ◌==◌, ◌++◌, ◌↔◌, Some, None, IfSome, IsTrue, OnErr, OnOk, filter, map, take};
 ghost use Rattle.rule_base.specs.Views.{element_in};
 ghost use Rattle.alpha_memory.specs.Dispatch.{admits_at, found, found_at, patterns_of};
 ghost use Rattle.alpha_memory.specs.Stores.{Serves, has_at, with_change, with_changes, with_place};
 ghost use Rattle.alpha_memory.specs.Times.{times};
-ghost use Rattle.std.specs.Prelude.{◌==◌};
 
 use crate::dispatch::{Dispatch, dispatch_hash, dispatch_of, is_at};
 use crate::store::AlphaStore;
@@ -121,10 +120,11 @@ fn file_in(
     ensures ok { OnOk result (stores.new ≡ with_change (with_place place (element_in element.entry)) number stores.old) }
     ensures err { OnErr result (stores.new ≡ stores.old) }
 {
-    match stores.get_mut(number as usize) {
-        Some(store) => store.file(place, element),
-        None => Ok(()),
+    if number as usize >= stores.len() {
+        return Ok(());
     }
+    let store = &mut stores[number as usize];
+    store.file(place, element)
 }
 
 /// The newest store among these numbers that asks like another one, if there is one.

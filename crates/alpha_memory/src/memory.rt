@@ -157,7 +157,8 @@ impl AlphaMemory {
     pub fn clean<L: Living>(&mut self, number: u32, hash: u64, living: &L)
         ensures { self.new ≡ with_change (cleaned hash (L.lives living.now)) number self.old }
     {
-        if let Some(store) = self.stores.get_mut(number as usize) {
+        if (number as usize) < self.stores.len() {
+            let store = &mut self.stores[number as usize];
             store.clean(hash, living);
         }
     }
@@ -173,10 +174,11 @@ impl AlphaMemory {
         ensures ok { OnOk result (self.new ≡ with_change (packed (L.lives living.now)) number self.old) }
         ensures err { OnErr result (self.new ≡ self.old) }
     {
-        match self.stores.get_mut(number as usize) {
-            Some(store) => store.pack(alloc, living),
-            None => Ok(()),
+        if number as usize >= self.stores.len() {
+            return Ok(());
         }
+        let store = &mut self.stores[number as usize];
+        store.pack(alloc, living)
     }
 }
 
