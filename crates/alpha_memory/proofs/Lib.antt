@@ -4,3 +4,5 @@ pub mod TimesLemmas
 pub mod ListingLemmas
 -- one store changes, or several
 pub mod ChangeLemmas
+-- which stores are found
+pub mod FoundLemmas
