@@ -6,3 +6,5 @@ pub mod ListingLemmas
 pub mod ChangeLemmas
 -- which stores are found
 pub mod FoundLemmas
+-- what leads to a store
+pub mod DispatchLemmas

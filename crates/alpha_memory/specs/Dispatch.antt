@@ -1,5 +1,5 @@
 -- Dispatch: what leads from an element to the stores that may let it in.
-use Rattle.std.specs.Prelude.{◌≡◌, ℕ, ◌<◌, ◌≤◌, ◌^◌, List, [], ◌∷◌, ◌++◌, Bool, true, false, ◌&&◌, ◌==◌, Option, None, Some, filter, if◌then◌else◌, length, map, reverse, slice_get}
+use Rattle.std.specs.Prelude.{◌≡◌, ℕ, ◌<◌, ◌≤◌, ◌^◌, List, [], ◌∷◌, ◌++◌, Bool, true, false, ◌&&◌, ◌==◌, Option, None, Some, filter, if◌then◌else◌, length, map, max, reverse, slice_get}
 use Rattle.std.specs.List.{flat_map}
 use Rattle.std.specs.Option.{option_map_or}
 use Rattle.rule_base.specs.declared.value.Value.{Value}
@@ -80,6 +80,12 @@ how_often entries hash number = times (λ n. number == n) (numbers_of entries ha
 abbrev pub IsListed : List (ℕ × ℕ) → Pattern → Type 0
 IsListed attributes pattern =
     (attribute : ℕ) → is_at (Some attribute) (dispatch_of pattern.tests) ≡ true → 0 < how_often attributes pattern.class attribute
+
+-- the attribute that leads to stores of a class, if any does, was listed unless it was there
+pub record Lists (class : ℕ) (dispatch : Dispatch) (before after : List (ℕ × ℕ)) : Type 0 where
+  pub listed : (attribute : ℕ) → is_at (Some attribute) dispatch ≡ true → 0 < how_often after class attribute
+  pub kept : (c a : ℕ) → how_often before c a ≤ how_often after c a
+  pub once : (c a : ℕ) → how_often after c a ≤ max 1 (how_often before c a)
 
 -- each store is filed once, under the hash that leads to it
 pub record IsDispatched (patterns : List Pattern) (numbers attributes : List (ℕ × ℕ)) : Type 0 where

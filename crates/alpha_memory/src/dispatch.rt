@@ -1,7 +1,7 @@
 //! By what a store is found: by its class, or by a constant besides.
 
 ghost use Rattle.std.specs.Prelude.{◌≡◌, ℕ, ◌==◌, ◌&&◌, OnErr, OnOk, if◌then◌else◌, max, nat_lt};
-ghost use Rattle.alpha_memory.specs.Dispatch.{by_test, dispatch_hash, dispatch_of, how_often, is_at};
+ghost use Rattle.alpha_memory.specs.Dispatch.{Lists, by_test, dispatch_hash, dispatch_of, how_often, is_at};
 ghost use Rattle.alpha_memory.specs.Times.{times};
 
 use hash_buckets::{Bucket, Buckets};
@@ -70,8 +70,23 @@ pub(crate) fn is_at(attribute: Option<u32>, dispatch: Dispatch) -> bool
     }
 }
 
+/// Lists the attribute that leads to stores of a class, if any does, unless it is listed.
+pub(crate) fn list_dispatch(
+    attributes: &mut Buckets,
+    class: u32,
+    dispatch: Dispatch,
+) -> Result<(), OutOfMemory>
+    ensures ok { OnOk result (Lists class dispatch attributes.old.entries attributes.new.entries) }
+    ensures err { OnErr result (attributes.new ≡ attributes.old) }
+{
+    match dispatch {
+        Dispatch::ByClass => Ok(()),
+        Dispatch::ByValue { attribute, .. } => list_attribute(attributes, class, attribute),
+    }
+}
+
 /// Lists an attribute for a class, unless it is listed.
-pub(crate) fn list_attribute(
+fn list_attribute(
     attributes: &mut Buckets,
     class: u32,
     attribute: u32,

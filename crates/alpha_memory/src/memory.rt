@@ -1,12 +1,12 @@
 //! All alpha stores of a program.
 
-ghost use Rattle.std.specs.Prelude.{◌≡◌, ℕ, ◌+◌, ◌<◌, ◌⊎◌, [], ◌∷◌, ◌++◌, ◌==◌, IfOk, OnErr, OnOk, Some, if◌then◌else◌, length, map, slice_get};
+ghost use Rattle.std.specs.Prelude.{◌≡◌, ℕ, ◌+◌, ◌<◌, ◌⊎◌, [], ◌∷◌, ◌++◌, ◌==◌, IfOk, IfSome, OnErr, OnOk, None, Some, if◌then◌else◌, length, map, slice_get};
 ghost use Rattle.rule_base.specs.Views.{element_in};
 ghost use Rattle.alpha_memory.specs.Dispatch.{patterns_of, IsDispatched};
 ghost use Rattle.alpha_memory.specs.Stores.{AreFiledOrNot, Serves, admits, attributes_of, cleaned, emptied, filed, has_at, packed, with_change, without_entries};
 ghost use Rattle.alpha_memory.specs.Times.{times};
 
-use crate::dispatch::{Dispatch, dispatch_hash, dispatch_of, list_attribute};
+use crate::dispatch::{dispatch_hash, dispatch_of, list_dispatch};
 use crate::filing::{file_in_all, find_all, find_alike};
 use crate::store::AlphaStore;
 use hash_buckets::{Buckets, Living};
@@ -113,9 +113,7 @@ impl AlphaMemory {
         let class = store.pattern().class;
         let dispatch = dispatch_of(store.pattern().tests.as_slice());
         self.stores.reserve(1)?;
-        if let Dispatch::ByValue { attribute, .. } = dispatch {
-            list_attribute(&mut self.attributes, class, attribute)?;
-        }
+        list_dispatch(&mut self.attributes, class, dispatch)?;
         self.numbers.push(dispatch_hash(class, dispatch), number as u32)?;
         self.stores.push_reserved(store);
         Ok(number as u32)

@@ -111,6 +111,7 @@ impl AlphaStore {
 
     /// Takes all places away that don't live, and frees their memory.
     pub(crate) fn pack<L: Living>(&mut self, alloc: Global, living: &L) -> Result<(), OutOfMemory>
+        ensures pattern { self.new.pattern ≡ self.old.pattern }
         ensures ok { OnOk result (self.new ≡ packed (L.lives living.now) self.old) }
         ensures err { OnErr result (self.new ≡ self.old) }
     {
