@@ -18,7 +18,7 @@ use Rattle.join_tests.specs.Reading.{value_at}
 use Rattle.join_tests.specs.Joining.{fits, lone_holds, passes}
 use Rattle.alpha_memory.specs.declared.dispatch.Dispatch.{Dispatch}
 use Rattle.alpha_memory.specs.declared.dispatch.Dispatch.TheVariants.{ByClass, ByValue}
-use Rattle.alpha_memory.specs.Dispatch.{by_test, dispatch_at, dispatch_hash, dispatch_of, how_often, is_at, or_else, pattern_hash, Lists}
+use Rattle.alpha_memory.specs.Dispatch.{by_test, dispatch_at, dispatch_hash, dispatch_of, how_often, is_at, or_else, pattern_hash}
 
 same_value-equal : (a b : Value) → same_value a b ≡ true → a ≡ b
 same_value-equal (Int a) (Int b) is = ap Int ((Decides-int_eq a b).0 is)
@@ -71,29 +71,3 @@ same_hash pattern e at is passing =
     let hold = (both (fits pattern e) (list_all (lone_holds e) pattern.tests) passing).1 in
     ap (λ class. dispatch_hash class (dispatch_of pattern.tests)) (same_class pattern e passing)
     ∙ ap (dispatch_hash e.class) (leads e at (dispatch_of pattern.tests) is (agrees e pattern.tests hold))
-
--- nothing more is listed
-pub Lists-nothing : (class : ℕ) (attributes : List (ℕ × ℕ)) → Lists class ByClass attributes attributes
-Lists-nothing class attributes = record {
-  listed = λ attribute is. absurd (let wrong : ⊥ = cc in wrong);
-  kept = λ c a. omega arith;
-  once = λ c a. omega arith;
-}
-
--- an attribute was listed
-lists_kept : (same : Bool) (k n : ℕ) → n ≡ cond same (max 1 k) k → (k ≤ n) × (n ≤ max 1 k)
-lists_kept true k n is = (omega (arith, is), omega (arith, is))
-lists_kept false k n is = (omega (arith, is), omega (arith, is))
-
-lists_first : (class attribute n k : ℕ) → n ≡ cond ((class == class) && (attribute == attribute)) (max 1 k) k → 0 < n
-lists_first class attribute n k is = grind (arith, nat_tests, is)
-
-pub Lists-attribute : (class attribute : ℕ) (value : Value) (before after : List (ℕ × ℕ)) → ((c a : ℕ) → how_often after c a ≡ cond ((class == c) && (attribute == a)) (max 1 (how_often before c a)) (how_often before c a)) → Lists class (ByValue attribute value) before after
-Lists-attribute class attribute value before after often = record {
-  listed = λ wanted is.
-      let same : attribute ≡ wanted = eqb-true attribute wanted is in
-      let here : 0 < how_often after class attribute = lists_first class attribute (how_often after class attribute) (how_often before class attribute) (often class attribute) in
-      rw (← same) here;
-  kept = λ c a. (lists_kept ((class == c) && (attribute == a)) (how_often before c a) (how_often after c a) (often c a)).0;
-  once = λ c a. (lists_kept ((class == c) && (attribute == a)) (how_often before c a) (how_often after c a) (often c a)).1;
-}

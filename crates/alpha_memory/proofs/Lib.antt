@@ -8,3 +8,7 @@ pub mod ChangeLemmas
 pub mod FoundLemmas
 -- what leads to a store
 pub mod DispatchLemmas
+-- what is filed in the stores that are found
+pub mod FilingLemmas
+-- one more store
+pub mod DispatchedLemmas
