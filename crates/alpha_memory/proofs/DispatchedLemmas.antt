@@ -1,15 +1,19 @@
 -- One more store, filed under the hash that leads to it.
-use Rattle.std.proofs.Common.{◌≡◌, inl, inr, ℕ, zero, suc, ◌+◌, ◌<◌, ◌≤◌, ◌^◌, ◌==◌, ◌&&◌, ◌⊎◌, List, [], ◌∷◌, ◌++◌, Bool, true, false, cond, Option, None, Some, length, map, refl, reverse, ap, subst, sym, ◌∙◌, arith, length-append}
+use Rattle.std.proofs.Common.{◌≡◌, inl, inr, ℕ, zero, suc, ◌+◌, ◌<◌, ◌≤◌, ◌^◌, ◌==◌, ◌&&◌, ◌⊎◌, List, [], ◌∷◌, ◌++◌, Bool, true, false, cond, Option, None, Some, length, map, refl, reverse, ap, subst, sym, ◌∙◌, arith, get_or, length-append, set}
 use Rattle.std.specs.List.{slice_get}
 use Rattle.std.specs.Option.{option_map, option_map_or}
 use Rattle.std.proofs.lemmas.Bool.{cases_eq, cases_lt}
 use Rattle.std.proofs.lemmas.Bool.Decides.{nat_tests}
 use Rattle.std.proofs.lemmas.Option.{slice_get-map, slice_get_past, slice_get_within}
 use Rattle.hash_buckets.specs.Buckets.{numbers_of}
+use Rattle.std.proofs.Math.Seq.{map-set_same}
+use Rattle.std.proofs.lemmas.List.{length-map, map-append}
+use Rattle.join_tests.specs.declared.joins.LoneTest.{LoneTest}
 use Rattle.join_tests.specs.declared.joins.Pattern.{Pattern}
+use Rattle.alpha_memory.specs.declared.dispatch.Dispatch.{Dispatch}
 use Rattle.alpha_memory.specs.Times.{times}
 use Rattle.alpha_memory.specs.Stores.{Serves, Store, emptied}
-use Rattle.alpha_memory.specs.Dispatch.{IsDispatched, IsListed, Lists, dispatch_of, how_often, pattern_hash, patterns_of}
+use Rattle.alpha_memory.specs.Dispatch.{IsDispatched, IsListed, Lists, dispatch_hash, dispatch_of, how_often, pattern_hash, patterns_of}
 use Rattle.alpha_memory.proofs.TimesLemmas.{times-reverse}
 use Rattle.alpha_memory.proofs.ListingLemmas.{how_often-push}
 
@@ -96,10 +100,36 @@ pattern_there (Some store) wanted serves =
     let same : emptied store ≡ emptied wanted = cc in
     ap (λ (s : Store). Some s.pattern) same
 
+along_bucket : (numbers : List (ℕ × ℕ)) (hash n : ℕ) (bucket : List ℕ) → bucket ≡ reverse (numbers_of numbers hash) → times (λ m. n == m) bucket ≡ how_often numbers hash n
+along_bucket numbers hash n bucket is = ap (times (λ m. n == m)) is ∙ times-reverse (λ m. n == m) (numbers_of numbers hash)
+
 pub not_served : (stores : List Store) (numbers attributes : List (ℕ × ℕ)) (wanted : Store) (hash : ℕ) (bucket : List ℕ) (n : ℕ) → IsDispatched (patterns_of stores) numbers attributes → hash ≡ pattern_hash wanted.pattern → bucket ≡ reverse (numbers_of numbers hash) → Serves wanted stores n → times (λ m. n == m) bucket ≡ 0 → ⊥
 not_served stores numbers attributes wanted hash bucket n dispatched hash_is bucket_is serves none =
     let there : slice_get (patterns_of stores) n ≡ Some wanted.pattern = slice_get-map (λ (s : Store). s.pattern) stores n ∙ pattern_there (slice_get stores n) wanted serves in
     let test : (pattern_hash wanted.pattern == hash) ≡ true = grind (arith, nat_tests, hash_is) in
     let often : how_often numbers hash n ≡ 1 = dispatched.filed hash n ∙ ap (λ p. cond (tests_at hash p) 1 0) there ∙ ap (λ b. cond b 1 0) test in
-    let walked : times (λ m. n == m) bucket ≡ how_often numbers hash n = ap (times (λ m. n == m)) bucket_is ∙ times-reverse (λ m. n == m) (numbers_of numbers hash) in
-    omega (arith, often, walked, none)
+    omega (arith, often, along_bucket numbers hash n bucket bucket_is, none)
+
+pub hash_found : (wanted pattern : Pattern) (tests : List LoneTest) (dispatch : Dispatch) (hash : ℕ) → pattern ≡ wanted → tests ≡ pattern.tests → dispatch ≡ dispatch_of tests → hash ≡ dispatch_hash pattern.class dispatch → hash ≡ pattern_hash wanted
+hash_found wanted pattern tests dispatch hash same tests_are dispatch_is hash_is =
+    hash_is ∙ ap (dispatch_hash pattern.class) (dispatch_is ∙ ap dispatch_of tests_are) ∙ ap pattern_hash same
+
+-- a store was added
+pub IsDispatched-added : (stores reserved now : List Store) (store : Store) (numbers more before after : List (ℕ × ℕ)) (first second : Pattern) (tests : List LoneTest) (dispatch : Dispatch) (hash number : ℕ) → IsDispatched (patterns_of stores) numbers before → first ≡ store.pattern → second ≡ store.pattern → tests ≡ second.tests → dispatch ≡ dispatch_of tests → Lists first.class dispatch before after → hash ≡ dispatch_hash first.class dispatch → number ≡ length stores → number + 1 < 2 ^ 32 → more ≡ numbers ++ (hash, number) ∷ [] → reserved ≡ stores → now ≡ reserved ++ store ∷ [] → IsDispatched (patterns_of now) more after
+IsDispatched-added stores reserved now store numbers more before after first second tests dispatch hash number dispatched first_is second_is tests_are dispatch_is lists hash_is number_is few more_is reserved_is now_is =
+    let patterns = patterns_of stores in
+    let pattern = store.pattern in
+    let dispatch_there : dispatch ≡ dispatch_of pattern.tests = dispatch_is ∙ ap dispatch_of tests_are ∙ ap (λ (p : Pattern). dispatch_of p.tests) second_is in
+    let lists_there : Lists pattern.class (dispatch_of pattern.tests) before after = subst (λ d. Lists pattern.class d before after) dispatch_there (subst (λ (p : Pattern). Lists p.class dispatch before after) first_is lists) in
+    let hash_there : hash ≡ pattern_hash pattern = hash_is ∙ ap (λ (p : Pattern). dispatch_hash p.class dispatch) first_is ∙ ap (dispatch_hash pattern.class) dispatch_there in
+    let length_is : length stores ≡ length patterns = sym (length-map stores (λ (s : Store). s.pattern)) in
+    let whole = IsDispatched-push patterns numbers before after pattern dispatched lists_there (omega (arith, few, number_is, length_is)) in
+    let numbers_are : numbers ++ (pattern_hash pattern, length patterns) ∷ [] ≡ more = sym (more_is ∙ ap (λ h. numbers ++ (h, number) ∷ []) hash_there ∙ ap (λ n. numbers ++ (pattern_hash pattern, n) ∷ []) (number_is ∙ length_is)) in
+    let patterns_are : patterns ++ pattern ∷ [] ≡ patterns_of now = sym (ap patterns_of (now_is ∙ ap (λ ss. ss ++ store ∷ []) reserved_is) ∙ map-append (λ (s : Store). s.pattern) stores (store ∷ [])) in
+    subst (λ ps. IsDispatched ps more after) patterns_are (subst (λ ns. IsDispatched (patterns ++ pattern ∷ []) ns after) numbers_are whole)
+
+-- one store was written, with the pattern that it had
+pub IsDispatched-set : (stores : List Store) (n : ℕ) (past old new : Store) (numbers attributes : List (ℕ × ℕ)) → IsDispatched (patterns_of stores) numbers attributes → new.pattern ≡ old.pattern → old ≡ get_or stores n past → IsDispatched (patterns_of (set stores n new)) numbers attributes
+IsDispatched-set stores n past old new numbers attributes dispatched kept old_is =
+    let pattern : Store → Pattern = λ s. s.pattern in
+    subst (λ ps. IsDispatched ps numbers attributes) (sym (map-set_same pattern stores n new past (kept ∙ ap pattern old_is))) dispatched

@@ -1,7 +1,9 @@
 -- An element is filed in the stores that let it in, each named once.
-use Rattle.std.proofs.Common.{◌≡◌, inl, inr, ℕ, zero, suc, ◌+◌, ◌<◌, ◌≤◌, ◌==◌, ◌⊎◌, List, [], ◌∷◌, ◌++◌, Bool, true, false, cond, Option, None, Some, drop, length, map, refl, take, ap, subst, sym, ◌∙◌, arith}
+use Rattle.std.proofs.Common.{◌≡◌, inl, inr, ℕ, zero, suc, ◌+◌, ◌<◌, ◌≤◌, ◌==◌, ◌⊎◌, List, [], ◌∷◌, ◌++◌, Bool, true, false, cond, Option, None, Some, drop, length, map, refl, take, ap, subst, sym, ◌∙◌, ◌-◌, arith, length-append}
 use Rattle.std.specs.List.{slice_get}
 use Rattle.std.specs.Option.{option_map, option_map_or}
+use Rattle.std.proofs.Math.Seq.{drop-append_seam}
+use Rattle.std.proofs.lemmas.List.{take_all}
 use Rattle.std.proofs.lemmas.Option.{slice_get-map}
 use Rattle.rule_base.specs.declared.element.Element.{Element}
 use Rattle.alpha_memory.specs.Times.{times}
@@ -80,3 +82,11 @@ filed_some place e ns count stores after once is = λ n.
     let here : slice_get after n ≡ option_map (again (with_place place e) k) (slice_get stores n) = ap (λ ss. slice_get ss n) is ∙ slice_get-with_changes (with_place place e) (take count ns) stores n in
     let le : k ≤ cond (has_at (admits e) stores n) 1 0 = omega (arith, times-take (λ m. n == m) count ns, once n) in
     elim (some_or_none place e k (slice_get stores n) le) [ inl none ↦ inl (here ∙ none) | inr one ↦ inr (here ∙ one) ]
+
+-- the numbers that were added behind others
+pub added_behind : (old whole passed more : List ℕ) (start : ℕ) → start ≡ length old → whole ≡ passed → passed ≡ old ++ more → take (length whole - start) (drop start whole) ≡ more
+added_behind old whole passed more start start_is whole_is passed_is =
+    let all : whole ≡ old ++ more = whole_is ∙ passed_is in
+    let long : length whole ≡ length old + length more = ap length all ∙ length-append old more in
+    let behind : drop start whole ≡ more = ap (drop start) all ∙ ap (λ n. drop n (old ++ more)) start_is ∙ drop-append_seam old more in
+    ap (take (length whole - start)) behind ∙ take_all (length whole - start) more (omega (arith, long, start_is))
