@@ -1,5 +1,6 @@
 -- The stores that were found have changed.
-use Rattle.std.proofs.Common.{◌≡◌, ℕ, ◌+◌, ◌==◌, ◌++◌, ap, subst, sym, ◌∙◌, arith, cond, map, rules}
+use Rattle.std.proofs.Common.{◌≡◌, ℕ, ◌+◌, ◌==◌, ◌++◌, ap, subst, sym, ◌∙◌, arith, cond, map, rules, take}
+use Rattle.std.specs.Vec.{with_items}
 use Rattle.std.proofs.lemmas.List.{with_items_is}
 use Rattle.std.proofs.lemmas.Result.{on_err_weaker, on_ok_weaker}
 use Rattle.rule_base.specs.Views.{element_in}
@@ -54,4 +55,13 @@ returns-clause-err c =
     let change = with_place c.args.place e in
     let names = found here.stores.items here.numbers.entries here.attributes.entries e in
     let passed = c.in_ok-find_all.ensures ∙ ap (λ ss. old ++ found ss here.numbers.entries here.attributes.entries e) c.as_slice.ensures.value in
-    ?
+    let named = added_behind old c.deref.result.now c.find_all.new.passed.items names c.len-start.result (omega (arith, c.len-start.ensures, c.args.passed.now.ok.0)) c.deref.ensures.value passed in
+    on_err_weaker c.file_in_all.result
+    (λ cut.
+      subst (λ ss. AreFiledOrNot c.args.place e ss (with_items here.stores c.file_in_all.new.stores).items) c.self.view_is
+      (filed_some c.args.place e names cut.0 here.stores.items (with_items here.stores c.file_in_all.new.stores).items (λ n. found-times here.stores.items here.numbers.entries here.attributes.entries e n c.self.invariant)
+      (with_items_is here.stores c.file_in_all.new.stores (search rules)
+      ∙ cut.1
+      ∙ ap (λ ns. with_changes change (take cut.0 ns) c.as_mut_slice.result.now) named
+      ∙ ap (with_changes change (take cut.0 names)) c.as_mut_slice.ensures.value)))
+    c.file_in_all.ensures.err
