@@ -18,7 +18,7 @@ use Rattle.alpha_memory.proofs.TimesLemmas.{times-reverse}
 use Rattle.alpha_memory.proofs.ListingLemmas.{how_often-push}
 
 -- what stands at a place once one more has come
-slice_get-before : {X : Type 0} (xs : List X) (x : X) (n : ℕ) → n < length xs → slice_get (xs ++ x ∷ []) n ≡ slice_get xs n
+pub slice_get-before : {X : Type 0} (xs : List X) (x : X) (n : ℕ) → n < length xs → slice_get (xs ++ x ∷ []) n ≡ slice_get xs n
 slice_get-before [] x n lt = absurd (omega arith)
 slice_get-before (y ∷ xs) x zero lt = refl
 slice_get-before (y ∷ xs) x (suc n) lt = slice_get-before xs x n (omega arith)
@@ -103,11 +103,17 @@ pattern_there (Some store) wanted serves =
 along_bucket : (numbers : List (ℕ × ℕ)) (hash n : ℕ) (bucket : List ℕ) → bucket ≡ reverse (numbers_of numbers hash) → times (λ m. n == m) bucket ≡ how_often numbers hash n
 along_bucket numbers hash n bucket is = ap (times (λ m. n == m)) is ∙ times-reverse (λ m. n == m) (numbers_of numbers hash)
 
+filed_once : (patterns : List Pattern) (numbers attributes : List (ℕ × ℕ)) (pattern : Pattern) (hash n : ℕ) → IsDispatched patterns numbers attributes → slice_get patterns n ≡ Some pattern → (pattern_hash pattern == hash) ≡ true → how_often numbers hash n ≡ 1
+filed_once patterns numbers attributes pattern hash n dispatched there same =
+    dispatched.filed hash n ∙ ap (λ p. cond (tests_at hash p) 1 0) there ∙ ap (λ b. cond b 1 0) same
+
+same_number : (m n : ℕ) → n ≡ m → (m == n) ≡ true
+same_number m n same = grind (arith, nat_tests, same)
+
 pub not_served : (stores : List Store) (numbers attributes : List (ℕ × ℕ)) (wanted : Store) (hash : ℕ) (bucket : List ℕ) (n : ℕ) → IsDispatched (patterns_of stores) numbers attributes → hash ≡ pattern_hash wanted.pattern → bucket ≡ reverse (numbers_of numbers hash) → Serves wanted stores n → times (λ m. n == m) bucket ≡ 0 → ⊥
 not_served stores numbers attributes wanted hash bucket n dispatched hash_is bucket_is serves none =
     let there : slice_get (patterns_of stores) n ≡ Some wanted.pattern = slice_get-map (λ (s : Store). s.pattern) stores n ∙ pattern_there (slice_get stores n) wanted serves in
-    let test : (pattern_hash wanted.pattern == hash) ≡ true = grind (arith, nat_tests, hash_is) in
-    let often : how_often numbers hash n ≡ 1 = dispatched.filed hash n ∙ ap (λ p. cond (tests_at hash p) 1 0) there ∙ ap (λ b. cond b 1 0) test in
+    let often = filed_once (patterns_of stores) numbers attributes wanted.pattern hash n dispatched there (same_number (pattern_hash wanted.pattern) hash hash_is) in
     omega (arith, often, along_bucket numbers hash n bucket bucket_is, none)
 
 pub hash_found : (wanted pattern : Pattern) (tests : List LoneTest) (dispatch : Dispatch) (hash : ℕ) → pattern ≡ wanted → tests ≡ pattern.tests → dispatch ≡ dispatch_of tests → hash ≡ dispatch_hash pattern.class dispatch → hash ≡ pattern_hash wanted

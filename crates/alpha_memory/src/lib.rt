@@ -7,6 +7,8 @@ mod dispatch;
 mod filing;
 mod memory;
 mod store;
+#[cfg(test)]
+mod tests;
 
 pub use memory::AlphaMemory;
 pub use store::AlphaStore;

@@ -1,6 +1,6 @@
 //! All alpha stores of a program.
 
-ghost use Rattle.std.specs.Prelude.{◌≡◌, ℕ, ◌+◌, ◌<◌, ◌⊎◌, [], ◌∷◌, ◌++◌, ◌==◌, IfOk, IfSome, OnErr, OnOk, None, Some, if◌then◌else◌, length, map, slice_get};
+ghost use Rattle.std.specs.Prelude.{◌≡◌, ℕ, ◌+◌, ◌<◌, ◌^◌, ◌⊎◌, [], ◌∷◌, ◌++◌, ◌==◌, IfOk, IfSome, OnErr, OnOk, None, Some, if◌then◌else◌, length, map, slice_get};
 ghost use Rattle.rule_base.specs.Views.{element_in};
 ghost use Rattle.alpha_memory.specs.Dispatch.{patterns_of, IsDispatched};
 ghost use Rattle.alpha_memory.specs.Stores.{AreFiledOrNot, Serves, admits, attributes_of, cleaned, emptied, filed, has_at, packed, with_change, without_entries};
@@ -53,7 +53,8 @@ impl AlphaMemory {
 
     /// How many stores there are.
     pub fn len(&self) -> usize
-        ensures { result ≡ length self.now }
+        ensures value { result ≡ length self.now }
+        ensures few { length self.now < 2 ^ 32 }
     {
         self.stores.len()
     }

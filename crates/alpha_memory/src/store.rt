@@ -104,7 +104,8 @@ impl AlphaStore {
 
     /// Takes the places that don't live out of the bucket of this hash.
     pub(crate) fn clean<L: Living>(&mut self, hash: u64, living: &L)
-        ensures { self.new ≡ cleaned hash (L.lives living.now) self.old }
+        ensures pattern { self.new.pattern ≡ self.old.pattern }
+        ensures cleaned { self.new ≡ cleaned hash (L.lives living.now) self.old }
     {
         self.buckets.clean(hash, living);
     }
