@@ -82,3 +82,6 @@ further f numbers i before now after keeps lt so_far patterns changed = record {
 -- one store was read, and written with a change
 pub changed_at : (f : Store → Store) (n : ℕ) (stores : List Store) (past new : Store) → new ≡ f (get_or stores n past) → n < length stores → set stores n new ≡ with_change f n stores
 changed_at f n stores past new changed lt = ap (set stores n) changed ∙ with_change-set f n stores past lt
+
+pub changed_in : (f : Store → Store) (n : ℕ) (stores before : List Store) (old new : Store) → new ≡ f old → old ≡ get_or stores n old → n < length stores → stores ≡ before → set stores n new ≡ with_change f n before
+changed_in f n stores before old new changed was lt same = changed_at f n stores old new (changed ∙ ap f was) lt ∙ ap (with_change f n) same

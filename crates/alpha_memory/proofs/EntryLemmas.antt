@@ -31,14 +31,14 @@ how_often-entries entries hash n =
     ∙ times-filter (λ (e : ℕ × ℕ). n == e.1) (λ e. e.0 == hash) entries
 
 neither : (a b c : Bool) → a ≡ false → (a && b) ≡ (a && c)
-neither true b c no = absurd (let wrong : ⊥ = cc in wrong)
-neither false b c no = refl
+neither true b c wrong = absurd (let impossible : ⊥ = cc in impossible)
+neither false b c is = refl
 
 -- a filter that keeps an entry of this hash and number, or none of them
 kept_or_not : (keep : ℕ × ℕ → Bool) (hash n : ℕ) (entry : ℕ × ℕ) → (is_entry hash n entry && keep entry) ≡ (is_entry hash n entry && keep (hash, n))
 kept_or_not keep hash n entry = elim (cases_eq n entry.1) [
   | inl number ↦ elim (cases_eq entry.0 hash) [
-    | inl same ↦ ap (λ e. is_entry hash n entry && keep e) (let pair : entry ≡ (hash, n) = cc in pair)
+    | inl same ↦ ap (λ e. is_entry hash n entry && keep e) (ap (λ h. (h, entry.1)) same ∙ ap (λ m. (hash, m)) (sym number))
     | inr other ↦ neither (is_entry hash n entry) (keep entry) (keep (hash, n)) (let no : is_entry hash n entry ≡ false = grind (arith, nat_tests, other) in no)
   ]
   | inr other ↦ neither (is_entry hash n entry) (keep entry) (keep (hash, n)) (let no : is_entry hash n entry ≡ false = grind (arith, nat_tests, other) in no)

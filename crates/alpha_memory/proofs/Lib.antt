@@ -12,3 +12,6 @@ pub mod DispatchLemmas
 pub mod FilingLemmas
 -- one more store
 pub mod DispatchedLemmas
+-- for those who use stores: which store serves, and how often a place is filed
+pub mod ServesLemmas
+pub mod EntryLemmas

@@ -1,7 +1,7 @@
 -- One store has changed, or there is none.
 use Rattle.std.proofs.Common.{◌<◌, ◌≤◌, ap, arith, length, subst, sym, ◌∙◌}
 use Rattle.alpha_memory.specs.Stores.{cleaned, with_change}
-use Rattle.alpha_memory.proofs.ChangeLemmas.{changed_at, with_change-past}
+use Rattle.alpha_memory.proofs.ChangeLemmas.{changed_in, with_change-past}
 use Rattle.alpha_memory.proofs.DispatchedLemmas.{IsDispatched-set}
 use Rattle.alpha_memory.proofs.memory.AlphaMemory.clean.Goals as goal
 
@@ -14,8 +14,7 @@ pub returns-then-number-len : goal.returns-then-number-len
 returns-then-number-len g c =
     let here = c.self.inside in
     let change = cleaned c.args.hash (g.L.Living.lives c.args.living.now) in
-    changed_at change c.args.number here.stores.items c.index_mut-store.result.now c.clean.new.self (c.clean.ensures.cleaned ∙ ap change c.index_mut-store.ensures.value) (omega (arith, c.if-number-len.true, c.len.ensures, here.stores.ok.0))
-    ∙ ap (with_change change c.args.number) c.self.view_is
+    changed_in change c.args.number here.stores.items c.args.self.now c.index_mut-store.result.now c.clean.new.self c.clean.ensures.cleaned c.index_mut-store.ensures.value (omega (arith, c.if-number-len.true, c.len.ensures, here.stores.ok.0)) c.self.view_is
 
 pub returns-else-number-len : goal.returns-else-number-len
 returns-else-number-len g c =

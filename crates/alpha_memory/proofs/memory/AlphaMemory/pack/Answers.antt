@@ -2,7 +2,7 @@
 use Rattle.std.proofs.Common.{◌<◌, ◌≤◌, ap, arith, length, subst, sym, ◌∙◌}
 use Rattle.std.proofs.lemmas.Result.{on_ok_weaker}
 use Rattle.alpha_memory.specs.Stores.{Store, packed, with_change}
-use Rattle.alpha_memory.proofs.ChangeLemmas.{changed_at, with_change-past}
+use Rattle.alpha_memory.proofs.ChangeLemmas.{changed_in, with_change-past}
 use Rattle.alpha_memory.proofs.DispatchedLemmas.{IsDispatched-set}
 use Rattle.alpha_memory.proofs.memory.AlphaMemory.pack.Goals as goal
 
@@ -21,7 +21,5 @@ returns-clause-ok g c =
     let here = c.self.inside in
     let change = packed (g.L.Living.lives c.args.living.now) in
     on_ok_weaker c.pack.result
-    (λ changed.
-      changed_at change c.args.number here.stores.items c.index_mut-store.result.now c.pack.new.self (changed ∙ ap change c.index_mut-store.ensures.value) (omega (arith, c.if-number-len.false, c.len.ensures, here.stores.ok.0))
-      ∙ ap (with_change change c.args.number) c.self.view_is)
+    (λ changed. changed_in change c.args.number here.stores.items c.args.self.now c.index_mut-store.result.now c.pack.new.self changed c.index_mut-store.ensures.value (omega (arith, c.if-number-len.false, c.len.ensures, here.stores.ok.0)) c.self.view_is)
     c.pack.ensures.ok
