@@ -1,9 +1,8 @@
 -- What leads to the stores that let an element in.
-use Rattle.std.proofs.Common.{◌≡◌, inl, inr, ℕ, zero, suc, ◌+◌, ◌<◌, ◌≤◌, ◌==◌, ◌&&◌, List, [], ◌∷◌, ◌++◌, Bool, true, false, cond, Option, None, Some, eqb, length, map, max, refl, reverse, ap, sym, ◌∙◌, arith}
-use Rattle.std.specs.List.{list_all, slice_get}
-use Rattle.std.specs.Option.{option_map, option_map_or}
-use Rattle.std.proofs.lemmas.Bool.{cases_eq, eqb-true}
-use Rattle.std.proofs.lemmas.Bool.Decides.{Decides-eqb, Decides-int_eq, nat_tests}
+use Rattle.std.proofs.Common.{◌≡◌, ℕ, ◌==◌, ◌&&◌, List, [], ◌∷◌, Bool, true, false, Option, None, Some, refl, ap, sym, ◌∙◌}
+use Rattle.std.specs.List.{list_all}
+use Rattle.std.proofs.lemmas.Bool.{eqb-true}
+use Rattle.std.proofs.lemmas.Bool.Decides.{Decides-eqb, Decides-int_eq}
 use Rattle.rule_base.specs.declared.value.Value.{Value}
 use Rattle.rule_base.specs.declared.value.Value.TheVariants.{Int, Sym}
 use Rattle.rule_base.specs.declared.condition.Pred.{Pred}
@@ -18,7 +17,7 @@ use Rattle.join_tests.specs.Reading.{value_at}
 use Rattle.join_tests.specs.Joining.{fits, lone_holds, passes}
 use Rattle.alpha_memory.specs.declared.dispatch.Dispatch.{Dispatch}
 use Rattle.alpha_memory.specs.declared.dispatch.Dispatch.TheVariants.{ByClass, ByValue}
-use Rattle.alpha_memory.specs.Dispatch.{by_test, dispatch_at, dispatch_hash, dispatch_of, how_often, is_at, or_else, pattern_hash}
+use Rattle.alpha_memory.specs.Dispatch.{by_test, dispatch_at, dispatch_hash, dispatch_of, is_at, or_else, pattern_hash}
 
 same_value-equal : (a b : Value) → same_value a b ≡ true → a ≡ b
 same_value-equal (Int a) (Int b) is = ap Int ((Decides-int_eq a b).0 is)

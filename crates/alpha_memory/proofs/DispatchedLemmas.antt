@@ -1,10 +1,10 @@
 -- One more store, filed under the hash that leads to it.
-use Rattle.std.proofs.Common.{◌≡◌, inl, inr, ℕ, zero, suc, ◌+◌, ◌<◌, ◌≤◌, ◌^◌, ◌==◌, ◌&&◌, ◌⊎◌, List, [], ◌∷◌, ◌++◌, Bool, true, false, cond, Option, None, Some, length, map, refl, reverse, ap, subst, sym, ◌∙◌, arith, get_or, length-append, set}
+use Rattle.std.proofs.Common.{◌≡◌, inl, inr, ℕ, zero, suc, ◌+◌, ◌<◌, ◌≤◌, ◌^◌, ◌==◌, ◌&&◌, ◌⊎◌, List, [], ◌∷◌, ◌++◌, Bool, true, false, cond, Option, None, Some, length, refl, reverse, ap, subst, sym, ◌∙◌, arith, get_or, length-append, set}
 use Rattle.std.specs.List.{slice_get}
 use Rattle.std.specs.Option.{option_map, option_map_or}
 use Rattle.std.proofs.lemmas.Bool.{cases_eq, cases_lt}
 use Rattle.std.proofs.lemmas.Bool.Decides.{nat_tests}
-use Rattle.std.proofs.lemmas.Option.{slice_get-map, slice_get_past, slice_get_within}
+use Rattle.std.proofs.lemmas.Option.{slice_get-map, slice_get_past}
 use Rattle.hash_buckets.specs.Buckets.{numbers_of}
 use Rattle.std.proofs.Math.Seq.{map-set_same}
 use Rattle.std.proofs.lemmas.List.{length-map, map-append}
@@ -41,27 +41,27 @@ and_true often false is = omega (arith, is)
 past : (hash : ℕ) (patterns : List Pattern) (pattern : Pattern) (n often : ℕ) → length patterns ≤ n → often ≡ 0 → often + cond ((pattern_hash pattern == hash) && (n == length patterns)) 1 0 ≡ cond (tests_at hash (slice_get (patterns ++ pattern ∷ []) n)) 1 0
 past hash patterns pattern n often le is = elim (cases_eq n (length patterns)) [
   | inl same ↦ (
-    let here : (n == length patterns) ≡ true = grind (arith, nat_tests, same) in
-    ap (λ b. often + cond ((pattern_hash pattern == hash) && b) 1 0) here
-    ∙ and_true often (pattern_hash pattern == hash) is
-    ∙ ap (λ p. cond (tests_at hash p) 1 0) (sym (ap (slice_get (patterns ++ pattern ∷ [])) same ∙ slice_get-last patterns pattern)))
+      let here : (n == length patterns) ≡ true = grind (arith, nat_tests, same) in
+      ap (λ b. often + cond ((pattern_hash pattern == hash) && b) 1 0) here
+      ∙ and_true often (pattern_hash pattern == hash) is
+      ∙ ap (λ p. cond (tests_at hash p) 1 0) (sym (ap (slice_get (patterns ++ pattern ∷ [])) same ∙ slice_get-last patterns pattern)))
   | inr other ↦ (
-    let no : (n == length patterns) ≡ false = grind (arith, nat_tests, other) in
-    let longer : length (patterns ++ pattern ∷ []) ≤ n = omega (arith, length-append patterns (pattern ∷ []), other, le) in
-    ap (λ b. often + cond ((pattern_hash pattern == hash) && b) 1 0) no
-    ∙ and_false often (pattern_hash pattern == hash)
-    ∙ is
-    ∙ ap (λ p. cond (tests_at hash p) 1 0) (sym (slice_get_past (patterns ++ pattern ∷ []) n longer)))
+      let no : (n == length patterns) ≡ false = grind (arith, nat_tests, other) in
+      let longer : length (patterns ++ pattern ∷ []) ≤ n = omega (arith, length-append patterns (pattern ∷ []), other, le) in
+      ap (λ b. often + cond ((pattern_hash pattern == hash) && b) 1 0) no
+      ∙ and_false often (pattern_hash pattern == hash)
+      ∙ is
+      ∙ ap (λ p. cond (tests_at hash p) 1 0) (sym (slice_get_past (patterns ++ pattern ∷ []) n longer)))
 ]
 
 more_filed : (hash : ℕ) (patterns : List Pattern) (pattern : Pattern) (n often : ℕ) → often ≡ cond (tests_at hash (slice_get patterns n)) 1 0 → often + cond ((pattern_hash pattern == hash) && (n == length patterns)) 1 0 ≡ cond (tests_at hash (slice_get (patterns ++ pattern ∷ []) n)) 1 0
 more_filed hash patterns pattern n often is = elim (cases_lt n (length patterns)) [
   | inl lt ↦ (
-    let other : (n == length patterns) ≡ false = grind (arith, nat_tests, lt) in
-    ap (λ b. often + cond ((pattern_hash pattern == hash) && b) 1 0) other
-    ∙ and_false often (pattern_hash pattern == hash)
-    ∙ is
-    ∙ ap (λ p. cond (tests_at hash p) 1 0) (sym (slice_get-before patterns pattern n lt)))
+      let other : (n == length patterns) ≡ false = grind (arith, nat_tests, lt) in
+      ap (λ b. often + cond ((pattern_hash pattern == hash) && b) 1 0) other
+      ∙ and_false often (pattern_hash pattern == hash)
+      ∙ is
+      ∙ ap (λ p. cond (tests_at hash p) 1 0) (sym (slice_get-before patterns pattern n lt)))
   | inr le ↦ past hash patterns pattern n often le (is ∙ ap (λ p. cond (tests_at hash p) 1 0) (slice_get_past patterns n le))
 ]
 

@@ -1,12 +1,15 @@
 -- How often a place is under a hash in a store, once an element was filed, or places were cleaned or packed away.
-use Rattle.std.proofs.Common.{◌≡◌, inl, inr, ℕ, ◌+◌, ◌==◌, ◌&&◌, ◌||◌, ◌++◌, List, [], ◌∷◌, Bool, true, false, cond, map, not, refl, ap, sym, ◌∙◌, arith}
+use Rattle.std.proofs.Common.{◌≡◌, inl, inr, ℕ, ◌+◌, ◌==◌, ◌&&◌, ◌++◌, List, [], ◌∷◌, Bool, true, false, cond, map, refl, ap, sym, ◌∙◌, arith}
 use Rattle.std.specs.List.{filter}
 use Rattle.std.proofs.lemmas.Bool.{cases_eq}
 use Rattle.std.proofs.lemmas.Bool.Decides.{nat_tests}
 use Rattle.rule_base.specs.declared.element.Element.{Element}
-use Rattle.hash_buckets.specs.Buckets.{numbers_of, stays}
+use Rattle.join_tests.specs.declared.joins.KeyPart.{KeyPart}
+use Rattle.join_tests.specs.Reading.{value_at}
+use Rattle.join_tests.specs.Joining.{key_of_element}
+use Rattle.join_tests.specs.Hashing.{hash_of}
 use Rattle.alpha_memory.specs.Times.{times}
-use Rattle.alpha_memory.specs.Stores.{Store, admits, filed, hash_at}
+use Rattle.alpha_memory.specs.Stores.{Store, admits, attributes_of, filed, hash_at}
 use Rattle.alpha_memory.specs.Dispatch.{how_often}
 use Rattle.alpha_memory.proofs.TimesLemmas.{times-agree, times-and, times-filter, times-map}
 use Rattle.alpha_memory.proofs.ListingLemmas.{how_often-push}
@@ -20,6 +23,10 @@ filed_step s hash number at n false false = omega arith
 
 pub how_often-filed : (place : ℕ) (e : Element) (s : Store) (at n : ℕ) → how_often (filed place e s).entries at n ≡ how_often s.entries at n + cond (admits e s && s.is_kept && (hash_at s.attributes e == at) && (n == place)) 1 0
 how_often-filed place e s at n = filed_step s (hash_at s.attributes e) place at n (admits e s) s.is_kept
+
+values_at : (key : List KeyPart) (e : Element) → map (value_at e) (attributes_of key) ≡ key_of_element key e
+values_at [] e = refl
+values_at (part ∷ key) e = ap (λ vs. value_at e part.attribute ∷ vs) (values_at key e)
 
 -- how often, as a count of entries
 abbrev is_entry : ℕ → ℕ → ℕ × ℕ → Bool
@@ -51,3 +58,7 @@ how_often-filter keep entries hash n =
     ∙ times-agree (λ e. is_entry hash n e && keep e) (λ e. is_entry hash n e && keep (hash, n)) (kept_or_not keep hash n) entries
     ∙ times-and (is_entry hash n) (keep (hash, n)) entries
     ∙ ap (λ k. cond (keep (hash, n)) k 0) (sym (how_often-entries entries hash n))
+
+-- the hash under which an element is filed is that of what it brings to the key
+pub hash_at-key : (key : List KeyPart) (e : Element) → hash_at (attributes_of key) e ≡ hash_of (key_of_element key e)
+hash_at-key key e = ap hash_of (values_at key e)

@@ -1,5 +1,5 @@
 -- An element is filed in the stores that let it in, each named once.
-use Rattle.std.proofs.Common.{◌≡◌, inl, inr, ℕ, zero, suc, ◌+◌, ◌<◌, ◌≤◌, ◌==◌, ◌⊎◌, List, [], ◌∷◌, ◌++◌, Bool, true, false, cond, Option, None, Some, drop, length, map, refl, take, ap, subst, sym, ◌∙◌, ◌-◌, arith, length-append}
+use Rattle.std.proofs.Common.{◌≡◌, inl, inr, ℕ, zero, suc, ◌+◌, ◌≤◌, ◌==◌, ◌⊎◌, List, [], ◌∷◌, ◌++◌, Bool, true, false, cond, Option, None, Some, drop, length, map, refl, take, ap, sym, ◌∙◌, ◌-◌, arith, length-append}
 use Rattle.std.specs.List.{slice_get}
 use Rattle.std.specs.Option.{option_map, option_map_or}
 use Rattle.std.proofs.Math.Seq.{drop-append_seam}
@@ -8,7 +8,6 @@ use Rattle.std.proofs.lemmas.Option.{slice_get-map}
 use Rattle.rule_base.specs.declared.element.Element.{Element}
 use Rattle.alpha_memory.specs.Times.{times}
 use Rattle.alpha_memory.specs.Stores.{AreFiledOrNot, Store, admits, filed, has_at, with_change, with_changes, with_place}
-use Rattle.alpha_memory.proofs.TimesLemmas.{times-append}
 use Rattle.alpha_memory.proofs.ChangeLemmas.{slice_get-with_change}
 
 -- a change, so many times

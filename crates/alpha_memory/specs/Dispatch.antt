@@ -2,7 +2,6 @@
 use Rattle.std.specs.Prelude.{◌≡◌, ℕ, ◌<◌, ◌≤◌, ◌^◌, List, [], ◌∷◌, ◌++◌, Bool, true, false, ◌&&◌, ◌==◌, Option, None, Some, filter, if◌then◌else◌, length, map, max, reverse, slice_get}
 use Rattle.std.specs.List.{flat_map}
 use Rattle.std.specs.Option.{option_map_or}
-use Rattle.rule_base.specs.declared.value.Value.{Value}
 use Rattle.rule_base.specs.declared.value.Value.TheVariants.{Sym}
 use Rattle.rule_base.specs.declared.element.Element.{Element}
 use Rattle.rule_base.specs.Predicate.{is_equality}
@@ -91,6 +90,6 @@ pub record Lists (class : ℕ) (dispatch : Dispatch) (before after : List (ℕ �
 pub record IsDispatched (patterns : List Pattern) (numbers attributes : List (ℕ × ℕ)) : Type 0 where
   pub few : length patterns < 2 ^ 32
   pub filed : (hash number : ℕ) → how_often numbers hash number
-    ≡ (if option_map_or (λ pattern. pattern_hash pattern == hash) (slice_get patterns number) false then 1 else 0)
+      ≡ (if option_map_or (λ pattern. pattern_hash pattern == hash) (slice_get patterns number) false then 1 else 0)
   pub listed : (number : ℕ) (pattern : Pattern) → slice_get patterns number ≡ Some pattern → IsListed attributes pattern
   pub once : (class attribute : ℕ) → how_often attributes class attribute ≤ 1

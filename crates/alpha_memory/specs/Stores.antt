@@ -1,5 +1,5 @@
 -- Alpha stores: what they ask of elements, and which are filed in them.
-use Rattle.std.specs.Prelude.{ℕ, zero, suc, List, [], ◌∷◌, ◌++◌, ◌≡◌, ◌⊎◌, Bool, false, Option, Some, filter, fold, if◌then◌else◌, map, option_map, slice_get}
+use Rattle.std.specs.Prelude.{ℕ, zero, suc, List, [], ◌∷◌, ◌++◌, ◌≡◌, ◌⊎◌, Bool, false, Some, filter, fold, if◌then◌else◌, map, option_map, slice_get}
 use Rattle.std.specs.Option.{option_map_or}
 use Rattle.hash_buckets.specs.Buckets.{stays}
 use Rattle.rule_base.specs.declared.element.Element.{Element}

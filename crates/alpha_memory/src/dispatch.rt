@@ -86,11 +86,7 @@ pub(crate) fn list_dispatch(
 }
 
 /// Lists an attribute for a class, unless it is listed.
-fn list_attribute(
-    attributes: &mut Buckets,
-    class: u32,
-    attribute: u32,
-) -> Result<(), OutOfMemory>
+fn list_attribute(attributes: &mut Buckets, class: u32, attribute: u32) -> Result<(), OutOfMemory>
     ensures ok { OnOk result ((c a : ℕ) → how_often attributes.new.entries c a
         ≡ (if (class == c) && (attribute == a) then max 1 (how_often attributes.old.entries c a) else how_often attributes.old.entries c a)) }
     ensures err { OnErr result (attributes.new ≡ attributes.old) }

@@ -7,7 +7,7 @@ ghost use Rattle.alpha_memory.specs.Stores.{AreFiledOrNot, Serves, admits, attri
 ghost use Rattle.alpha_memory.specs.Times.{times};
 
 use crate::dispatch::{dispatch_hash, dispatch_of, list_dispatch};
-use crate::filing::{file_in_all, find_all, find_alike};
+use crate::filing::{file_in_all, find_alike, find_all};
 use crate::store::AlphaStore;
 use hash_buckets::{Buckets, Living};
 use join_tests::{KeyPart, Pattern};
@@ -115,7 +115,8 @@ impl AlphaMemory {
         let dispatch = dispatch_of(store.pattern().tests.as_slice());
         self.stores.reserve(1)?;
         list_dispatch(&mut self.attributes, class, dispatch)?;
-        self.numbers.push(dispatch_hash(class, dispatch), number as u32)?;
+        self.numbers
+            .push(dispatch_hash(class, dispatch), number as u32)?;
         self.stores.push_reserved(store);
         Ok(number as u32)
     }
@@ -143,12 +144,7 @@ impl AlphaMemory {
             element,
             passed,
         )?;
-        file_in_all(
-            self.stores.as_mut_slice(),
-            &passed[start..],
-            place,
-            element,
-        )
+        file_in_all(self.stores.as_mut_slice(), &passed[start..], place, element)
     }
 
     /// Takes the places that don't live out of the bucket of this hash in one store. It looks at each place
@@ -180,4 +176,3 @@ impl AlphaMemory {
         store.pack(alloc, living)
     }
 }
-

@@ -19,7 +19,12 @@ fn key(attribute: u32) -> [KeyPart; 1] {
 }
 
 /// Asks for elements of class 1 that pass one test.
-fn one_test(alloc: Global, attribute: u32, predicate: Pred, number: i64) -> Result<Pattern, OutOfMemory> {
+fn one_test(
+    alloc: Global,
+    attribute: u32,
+    predicate: Pred,
+    number: i64,
+) -> Result<Pattern, OutOfMemory> {
     let test = LoneTest::Constant {
         attribute,
         predicate,
@@ -80,7 +85,10 @@ fn newest(memory: &AlphaMemory, number: u32, key: &[KeyPart]) -> Option<u32> {
     if number as usize >= memory.len() {
         return None;
     }
-    memory.store(number).bucket(element_hash(key, element)).next()
+    memory
+        .store(number)
+        .bucket(element_hash(key, element))
+        .next()
 }
 
 #[test]
@@ -106,7 +114,13 @@ fn elements_pass_each_store_once(rt: HostRuntime) -> Result<(), Fail> {
         (2, 7, 5, [0, 0, 0, 0]),
     ];
     for (class, x, y, want) in rows {
-        let often = file(alloc, &mut memory, 0, class, &[Value::Int(x), Value::Int(y)])?;
+        let often = file(
+            alloc,
+            &mut memory,
+            0,
+            class,
+            &[Value::Int(x), Value::Int(y)],
+        )?;
         assert!(rt; often == want);
     }
     Ok(())

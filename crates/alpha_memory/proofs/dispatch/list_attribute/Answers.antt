@@ -1,5 +1,5 @@
 -- The attribute is there, or comes once.
-use Rattle.std.proofs.Common.{◌∙◌, ap, sym, subst, [], ◌∷◌, ◌++◌}
+use Rattle.std.proofs.Common.{◌∙◌, ap, sym, [], ◌∷◌, ◌++◌}
 use Rattle.std.proofs.lemmas.Result.{on_ok_weaker}
 use Rattle.alpha_memory.specs.Dispatch.{how_often}
 use Rattle.alpha_memory.proofs.ListingLemmas.{found-how_often, found-none, found-some, listed_before, listed_now}
@@ -18,6 +18,6 @@ returns-clause-ok c =
     let none = found-none entries c.args.class c.args.attribute (sym is ∙ c.if-is_among.false) in
     on_ok_weaker c.push.result
     (λ pushed class a.
-      ap (λ es. how_often es class a) (pushed ∙ ap (λ n. entries ++ (n, c.args.attribute) ∷ []) c.from-class.ensures)
-      ∙ listed_now entries c.args.class c.args.attribute class a none)
+    ap (λ es. how_often es class a) (pushed ∙ ap (λ n. entries ++ (n, c.args.attribute) ∷ []) c.from-class.ensures)
+    ∙ listed_now entries c.args.class c.args.attribute class a none)
     c.push.ensures.ok

@@ -10,5 +10,5 @@ invariant-loop-attribute l = record {
   can_next : (goal.iterator-loop-attribute).can_next l.attribute-iterator;
   is_finite : (goal.iterator-loop-attribute).is_finite l.attribute-iterator;
   rest : l.passed.items ++ flat_map (λ a. found_at l.stores l.numbers.entries (element_in l.element) (Some a)) l.attribute-iterator
-    ≡ l.initial.passed.items ++ flat_map (λ a. found_at l.stores l.numbers.entries (element_in l.element) (Some a)) l.initial.attribute-iterator;
+      ≡ l.initial.passed.items ++ flat_map (λ a. found_at l.stores l.numbers.entries (element_in l.element) (Some a)) l.initial.attribute-iterator;
 }

@@ -11,5 +11,5 @@ invariant-loop-number l = record {
   can_next : (goal.iterator-loop-number).can_next l.number-iterator;
   is_finite : (goal.iterator-loop-number).is_finite l.number-iterator;
   rest : l.passed.items ++ filter (has_at (admits_at l.attribute (element_in l.element)) l.stores) l.number-iterator
-    ≡ l.initial.passed.items ++ filter (has_at (admits_at l.attribute (element_in l.element)) l.stores) l.fn.numbers;
+      ≡ l.initial.passed.items ++ filter (has_at (admits_at l.attribute (element_in l.element)) l.stores) l.fn.numbers;
 }

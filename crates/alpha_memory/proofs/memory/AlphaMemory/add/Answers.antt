@@ -1,5 +1,5 @@
 -- The store is filed under the hash that leads to it.
-use Rattle.std.proofs.Common.{◌∙◌, arith}
+use Rattle.std.proofs.Common.{arith}
 use Rattle.alpha_memory.proofs.DispatchedLemmas.{IsDispatched-added}
 use Rattle.alpha_memory.proofs.memory.AlphaMemory.add.Goals as goal
 

@@ -1,6 +1,6 @@
 -- One store has changed, or there is none.
-use Rattle.std.proofs.Common.{◌<◌, ◌≤◌, ap, arith, length, subst, sym, ◌∙◌}
-use Rattle.alpha_memory.specs.Stores.{cleaned, with_change}
+use Rattle.std.proofs.Common.{ap, arith, length}
+use Rattle.alpha_memory.specs.Stores.{cleaned}
 use Rattle.alpha_memory.proofs.ChangeLemmas.{changed_in, with_change-past}
 use Rattle.alpha_memory.proofs.DispatchedLemmas.{IsDispatched-set}
 use Rattle.alpha_memory.proofs.memory.AlphaMemory.clean.Goals as goal

@@ -1,5 +1,5 @@
 -- The stores that were found have changed.
-use Rattle.std.proofs.Common.{◌≡◌, ℕ, ◌+◌, ◌==◌, ◌++◌, ap, subst, sym, ◌∙◌, arith, cond, map, rules, take}
+use Rattle.std.proofs.Common.{◌+◌, ◌==◌, ◌++◌, ap, subst, ◌∙◌, arith, cond, map, rules, take}
 use Rattle.std.specs.Vec.{with_items}
 use Rattle.std.proofs.lemmas.List.{with_items_is}
 use Rattle.std.proofs.lemmas.Result.{on_err_weaker, on_ok_weaker}
@@ -23,12 +23,12 @@ returns-clause-ok c =
     let named = added_behind old c.deref.result.now c.find_all.new.passed.items names c.len-start.result (omega (arith, c.len-start.ensures, c.args.passed.now.ok.0)) c.deref.ensures.value passed in
     on_ok_weaker c.file_in_all.result
     (λ changed.
-      with_items_is here.stores c.file_in_all.new.stores (search rules)
-      ∙ changed
-      ∙ ap (λ ns. with_changes change ns c.as_mut_slice.result.now) named
-      ∙ ap (with_changes change names) c.as_mut_slice.ensures.value
-      ∙ filed_all c.args.place e names here.stores.items (λ n. found-times here.stores.items here.numbers.entries here.attributes.entries e n c.self.invariant)
-      ∙ ap (map (filed c.args.place e)) c.self.view_is)
+    with_items_is here.stores c.file_in_all.new.stores (search rules)
+    ∙ changed
+    ∙ ap (λ ns. with_changes change ns c.as_mut_slice.result.now) named
+    ∙ ap (with_changes change names) c.as_mut_slice.ensures.value
+    ∙ filed_all c.args.place e names here.stores.items (λ n. found-times here.stores.items here.numbers.entries here.attributes.entries e n c.self.invariant)
+    ∙ ap (map (filed c.args.place e)) c.self.view_is)
     c.file_in_all.ensures.ok
 
 pub returns-clause-passed : goal.returns-clause-passed
@@ -40,11 +40,11 @@ returns-clause-passed c =
     let passed = c.in_ok-find_all.ensures ∙ ap (λ ss. old ++ found ss here.numbers.entries here.attributes.entries e) c.as_slice.ensures.value in
     on_ok_weaker c.file_in_all.result
     (λ changed n.
-      ap (times (λ m. n == m)) passed
-      ∙ times-append (λ m. n == m) old names
-      ∙ ap (λ k. times (λ m. n == m) old + k)
-      (found-times here.stores.items here.numbers.entries here.attributes.entries e n c.self.invariant
-      ∙ ap (λ ss. cond (has_at (admits e) ss n) 1 0) c.self.view_is))
+    ap (times (λ m. n == m)) passed
+    ∙ times-append (λ m. n == m) old names
+    ∙ ap (λ k. times (λ m. n == m) old + k)
+    (found-times here.stores.items here.numbers.entries here.attributes.entries e n c.self.invariant
+    ∙ ap (λ ss. cond (has_at (admits e) ss n) 1 0) c.self.view_is))
     c.file_in_all.ensures.ok
 
 pub returns-clause-err : goal.returns-clause-err
@@ -58,10 +58,10 @@ returns-clause-err c =
     let named = added_behind old c.deref.result.now c.find_all.new.passed.items names c.len-start.result (omega (arith, c.len-start.ensures, c.args.passed.now.ok.0)) c.deref.ensures.value passed in
     on_err_weaker c.file_in_all.result
     (λ cut.
-      subst (λ ss. AreFiledOrNot c.args.place e ss (with_items here.stores c.file_in_all.new.stores).items) c.self.view_is
-      (filed_some c.args.place e names cut.0 here.stores.items (with_items here.stores c.file_in_all.new.stores).items (λ n. found-times here.stores.items here.numbers.entries here.attributes.entries e n c.self.invariant)
-      (with_items_is here.stores c.file_in_all.new.stores (search rules)
-      ∙ cut.1
-      ∙ ap (λ ns. with_changes change (take cut.0 ns) c.as_mut_slice.result.now) named
-      ∙ ap (with_changes change (take cut.0 names)) c.as_mut_slice.ensures.value)))
+    subst (λ ss. AreFiledOrNot c.args.place e ss (with_items here.stores c.file_in_all.new.stores).items) c.self.view_is
+    (filed_some c.args.place e names cut.0 here.stores.items (with_items here.stores c.file_in_all.new.stores).items (λ n. found-times here.stores.items here.numbers.entries here.attributes.entries e n c.self.invariant)
+    (with_items_is here.stores c.file_in_all.new.stores (search rules)
+    ∙ cut.1
+    ∙ ap (λ ns. with_changes change (take cut.0 ns) c.as_mut_slice.result.now) named
+    ∙ ap (with_changes change (take cut.0 names)) c.as_mut_slice.ensures.value)))
     c.file_in_all.ensures.err

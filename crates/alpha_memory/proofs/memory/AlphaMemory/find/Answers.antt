@@ -1,5 +1,5 @@
 -- What leads to the store leads to one that asks alike.
-use Rattle.std.proofs.Common.{subst, sym, ◌∙◌}
+use Rattle.std.proofs.Common.{subst, sym}
 use Rattle.alpha_memory.specs.Stores.{Serves}
 use Rattle.alpha_memory.proofs.DispatchedLemmas.{hash_found, not_served}
 use Rattle.alpha_memory.proofs.memory.AlphaMemory.find.Goals as goal

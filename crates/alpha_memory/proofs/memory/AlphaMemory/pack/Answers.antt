@@ -1,7 +1,7 @@
 -- One store has changed, or there is none.
-use Rattle.std.proofs.Common.{◌<◌, ◌≤◌, ap, arith, length, subst, sym, ◌∙◌}
+use Rattle.std.proofs.Common.{ap, arith, length}
 use Rattle.std.proofs.lemmas.Result.{on_ok_weaker}
-use Rattle.alpha_memory.specs.Stores.{Store, packed, with_change}
+use Rattle.alpha_memory.specs.Stores.{packed}
 use Rattle.alpha_memory.proofs.ChangeLemmas.{changed_in, with_change-past}
 use Rattle.alpha_memory.proofs.DispatchedLemmas.{IsDispatched-set}
 use Rattle.alpha_memory.proofs.memory.AlphaMemory.pack.Goals as goal
