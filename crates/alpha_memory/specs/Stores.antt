@@ -26,8 +26,8 @@ abbrev pub hash_at : List ℕ → Element → ℕ
 hash_at attributes e = hash_of (map (value_at e) attributes)
 
 -- a store that asks for this, with nothing in it
-abbrev pub without_entries : Pattern → List ℕ → Bool → Store
-without_entries pattern attributes kept = record { pattern = pattern; attributes = attributes; is_kept = kept; entries = [] }
+abbrev pub without_entries : Pattern → List KeyPart → Bool → Store
+without_entries pattern key kept = record { pattern = pattern; attributes = attributes_of key; is_kept = kept; entries = [] }
 
 -- a store that asks alike, with nothing in it
 abbrev pub emptied : Store → Store

@@ -47,7 +47,8 @@ fn by_test(test: &LoneTest) -> Dispatch
     }
 }
 
-/// The hash under which a store of this class is found.
+/// The hash under which a store of this class is found. The numbers of class and attribute are mixed in as
+/// those of symbols are.
 pub(crate) fn dispatch_hash(class: u32, dispatch: Dispatch) -> u64
     ensures { result ≡ dispatch_hash class dispatch }
 {

@@ -2,8 +2,8 @@
 
 ghost use Rattle.std.specs.Prelude.{◌≡◌, ℕ, ◌+◌, ◌<◌, ◌^◌, ◌⊎◌, [], ◌∷◌, ◌++◌, ◌==◌, IfOk, IfSome, OnErr, OnOk, None, Some, if◌then◌else◌, length, map, slice_get};
 ghost use Rattle.rule_base.specs.Views.{element_in};
-ghost use Rattle.alpha_memory.specs.Dispatch.{patterns_of, IsDispatched};
-ghost use Rattle.alpha_memory.specs.Stores.{AreFiledOrNot, Serves, admits, attributes_of, cleaned, emptied, filed, has_at, packed, with_change, without_entries};
+ghost use Rattle.alpha_memory.specs.Dispatch.{IsDispatched, patterns_of};
+ghost use Rattle.alpha_memory.specs.Stores.{AreFiledOrNot, Serves, admits, cleaned, filed, has_at, packed, with_change, without_entries};
 ghost use Rattle.alpha_memory.specs.Times.{times};
 
 use crate::dispatch::{dispatch_hash, dispatch_of, list_dispatch};
@@ -68,8 +68,8 @@ impl AlphaMemory {
     }
 
     /// The number of a store that asks for this: of one that there is, or else of a new one with nothing in
-    /// it. On average it takes the same time however many stores there are. It also fails where there are
-    /// 2^32 - 1.
+    /// it. It looks only at stores to which the same class and constant lead. It also fails where there are
+    /// 2^32 - 1 stores.
     pub fn ask(
         &mut self,
         alloc: Global,
@@ -77,11 +77,11 @@ impl AlphaMemory {
         key: &[KeyPart],
         kept: bool,
     ) -> Result<u32, OutOfMemory>
-        ensures serves { IfOk result (Serves (without_entries pattern.now (attributes_of key.now) kept) self.new) }
-        ensures shared { (n : ℕ) → Serves (without_entries pattern.now (attributes_of key.now) kept) self.old n
+        ensures serves { IfOk result (Serves (without_entries pattern.now key.now kept) self.new) }
+        ensures shared { (n : ℕ) → Serves (without_entries pattern.now key.now kept) self.old n
             → self.new ≡ self.old }
         ensures grows { OnOk result ((self.new ≡ self.old)
-            ⊎ (self.new ≡ self.old ++ without_entries pattern.now (attributes_of key.now) kept ∷ [])) }
+            ⊎ (self.new ≡ self.old ++ without_entries pattern.now key.now kept ∷ [])) }
         ensures err { OnErr result (self.new ≡ self.old) }
     {
         let wanted = AlphaStore::new(alloc, pattern, key, kept)?;

@@ -42,7 +42,7 @@ impl AlphaStore {
         key: &[KeyPart],
         kept: bool,
     ) -> Result<AlphaStore, OutOfMemory>
-        ensures { IfOk result (λ store. store ≡ without_entries pattern.now (attributes_of key.now) kept) }
+        ensures { IfOk result (λ store. store ≡ without_entries pattern.now key.now kept) }
     {
         Ok(AlphaStore {
             pattern: pattern.copy(alloc)?,
