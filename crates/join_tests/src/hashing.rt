@@ -38,7 +38,7 @@ pub fn row_hash<R: Row>(key: &[KeyPart], row: &R) -> u64
 }
 
 /// The hash once one more value is mixed in.
-fn mixed(hash: u64, value: Value) -> u64
+pub fn mixed(hash: u64, value: Value) -> u64
     ensures { result ≡ mixed hash value }
 {
     hash.wrapping_add(code_of(value)).wrapping_mul(FACTOR)

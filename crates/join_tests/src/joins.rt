@@ -1,7 +1,10 @@
 //! What a rule's condition elements ask of elements, in a form in which no variable is left.
 
-use ops_text::Sequence;
+ghost use Rattle.std.specs.Prelude.{◌≡◌, IfOk};
+
+use ops_text::{Duplicate, OutOfMemory, Sequence};
 use rule_base::{Pred, Value};
+use std::alloc::Global;
 
 /// Where the value of a variable lies: at an attribute of the element for a positive condition element.
 /// Both count from 0; negated condition elements aren't counted.
@@ -39,6 +42,57 @@ pub struct Pattern {
     pub class: u32,
     pub size: usize,
     pub tests: Sequence<LoneTest>,
+}
+
+impl LoneTest {
+    /// A test equal to this one.
+    pub fn copy(&self, alloc: Global) -> Result<LoneTest, OutOfMemory>
+        ensures { IfOk result (λ copy. copy ≡ self.now) }
+    {
+        match self {
+            LoneTest::Constant {
+                attribute,
+                predicate,
+                value,
+            } => Ok(LoneTest::Constant {
+                attribute: *attribute,
+                predicate: *predicate,
+                value: *value,
+            }),
+            LoneTest::OneOf { attribute, among } => Ok(LoneTest::OneOf {
+                attribute: *attribute,
+                among: among.duplicate(alloc)?,
+            }),
+            LoneTest::Within {
+                attribute,
+                predicate,
+                other,
+            } => Ok(LoneTest::Within {
+                attribute: *attribute,
+                predicate: *predicate,
+                other: *other,
+            }),
+        }
+    }
+}
+
+impl Duplicate for LoneTest {
+    fn duplicate(&self, alloc: Global) -> Result<LoneTest, OutOfMemory> {
+        self.copy(alloc)
+    }
+}
+
+impl Pattern {
+    /// A pattern equal to this one.
+    pub fn copy(&self, alloc: Global) -> Result<Pattern, OutOfMemory>
+        ensures { IfOk result (λ copy. copy ≡ self.now) }
+    {
+        Ok(Pattern {
+            class: self.class,
+            size: self.size,
+            tests: self.tests.duplicate(alloc)?,
+        })
+    }
 }
 
 /// A part of a key: an attribute that must have the same value as an earlier element has at its place.

@@ -12,7 +12,7 @@ mod row;
 #[cfg(test)]
 mod tests;
 
-pub use hashing::{element_hash, row_hash};
-pub use joining::{passes, same_key, tests_hold};
+pub use hashing::{element_hash, mixed, row_hash};
+pub use joining::{passes, same_key, tests_hold, value_at};
 pub use joins::{Join, JoinTest, Joins, KeyPart, LoneTest, Negated, Pattern, Source};
 pub use row::Row;
