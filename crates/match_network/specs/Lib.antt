@@ -1,0 +1,9 @@
+-- how often something is in a list
+pub mod Times
+-- rows of places, and which of them are partial matches
+pub mod Row
+-- the rows that a place makes, and the levels that hold them
+pub mod Woven
+pub mod Levels
+-- what weaving gives, as laws
+pub mod Laws

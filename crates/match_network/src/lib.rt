@@ -1,0 +1,5 @@
+//! The match network: which partial matches of rules there are, kept up from one change of working memory
+//! to the next. It fires nothing, and knows no journal and no order of choices.
+#![tactic(auto)]
+
+pub mod laws;
