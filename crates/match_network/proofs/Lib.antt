@@ -1,3 +1,8 @@
+-- how often something is in a list
 pub mod TimesLemmas
+-- rows of one place more, and rows of elements that came
 pub mod RowLemmas
+pub mod ComeLemmas
+-- what a weave makes, and what it leaves of levels
 pub mod WeaveLemmas
+pub mod LevelLemmas

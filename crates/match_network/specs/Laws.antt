@@ -1,17 +1,57 @@
 -- What weaving gives, as laws.
-use Rattle.std.specs.Prelude.{◌≡◌, ℕ, ◌<◌, ◌==◌, List, [], ◌∷◌, ◌++◌, Bool, true, false, Some, length, slice_get}
+use Rattle.std.specs.Prelude.{◌≡◌, ℕ, ◌<◌, ◌==◌, List, [], ◌∷◌, ◌++◌, Bool, true, false, Some, filter, length, slice_get}
 use Rattle.std.specs.List.{AllByRecursion, list_any}
 use Rattle.rule_base.specs.declared.element.Element.{Element}
 use Rattle.rule_base.specs.Memory.{Rises}
-use Rattle.match_network.specs.Row.{Joins}
-use Rattle.match_network.specs.Levels.{AreLevels, AreWoven}
+use Rattle.rule_base.specs.Numbers.{has_number}
+use Rattle.match_network.specs.Row.{Joins, is_living}
+use Rattle.match_network.specs.Levels.{AreLevels, AreWoven, HaveCome}
 use Rattle.match_network.specs.Woven.{Levels, woven}
 
--- one weave more, at a condition element that had none: the place is one of a memory that rises, and of what came
-abbrev pub WeavesGoOn : Type 0
-WeavesGoOn =
+-- an element comes: with nothing woven yet, the levels of the memory without it are on the way to the memory with it
+abbrev pub WeavingBegins : Type 0
+WeavingBegins =
+    (joins : Joins) (came : List Element) (places : List ℕ) (e : Element) (levels : Levels) →
+    AllByRecursion (λ p. p < length came) places →
+    AreLevels joins came places levels →
+    AreWoven joins (came ++ e ∷ []) (places ++ length came ∷ []) (length came) [] levels
+
+-- one weave more, at a condition element that had none
+abbrev pub WeavingGoesOn : Type 0
+WeavingGoesOn =
     (joins : Joins) (came : List Element) (places : List ℕ) (place : ℕ) (done : List ℕ) (at : ℕ) (levels : Levels) →
     Rises places → AllByRecursion (λ p. p < length came) places → place < length came →
     list_any (λ other. other == at) done ≡ false →
     AreWoven joins came places place done levels →
     AreWoven joins came places place (at ∷ done) (woven joins came places place at levels)
+
+-- once the place was woven in wherever its element may join, the levels are right for the memory with it
+abbrev pub WeavingEnds : Type 0
+WeavingEnds =
+    (joins : Joins) (came : List Element) (places : List ℕ) (place : ℕ) (e : Element) (done : List ℕ) (levels : Levels) →
+    slice_get came place ≡ Some e →
+    ((at : ℕ) (before : List Element) → joins at before e ≡ true → list_any (λ other. other == at) done ≡ true) →
+    AreWoven joins came places place done levels →
+    AreLevels joins came places levels
+
+-- where weaving stopped midway and the place was taken out again, the levels are right for the memory as it was
+abbrev pub WeavingMayStop : Type 0
+WeavingMayStop =
+    (joins : Joins) (came : List Element) (places : List ℕ) (e : Element) (levels more : Levels) →
+    AllByRecursion (λ p. p < length came) places →
+    ((width : ℕ) → AllByRecursion (λ row. HaveCome (came ++ e ∷ []) row × (has_number row (length came) ≡ true)) (more width)) →
+    AreLevels joins came places levels →
+    AreLevels joins (came ++ e ∷ []) places (λ width. levels width ++ more width)
+
+-- places that go change nothing in the levels
+abbrev pub PlacesMayGo : Type 0
+PlacesMayGo =
+    (joins : Joins) (came : List Element) (places : List ℕ) (keep : ℕ → Bool) (levels : Levels) →
+    AreLevels joins came places levels → AreLevels joins came (filter keep places) levels
+
+-- dead rows may be dropped
+abbrev pub DeadMayGo : Type 0
+DeadMayGo =
+    (joins : Joins) (came : List Element) (places : List ℕ) (keep : List ℕ → Bool) (levels : Levels) →
+    ((row : List ℕ) → is_living places row ≡ true → keep row ≡ true) →
+    AreLevels joins came places levels → AreLevels joins came places (λ width. filter keep (levels width))

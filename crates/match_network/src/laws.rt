@@ -1,9 +1,18 @@
 //! Laws of what the levels hold. Each function here does nothing: its contract is the law.
 
-ghost use Rattle.match_network.specs.Laws.{WeavesGoOn};
+ghost use Rattle.match_network.specs.Laws.{DeadMayGo, PlacesMayGo, WeavingBegins, WeavingEnds, WeavingGoesOn, WeavingMayStop};
 
-/// Weaving a place in where its element passes, in any order and once at each condition element, makes
-/// levels of the memory with it from those of the memory without it.
+/// Weaving a place in at each condition element where its element may join, in any order and once at
+/// each, makes levels of the memory with it from those of the memory without it.
 pub fn weaves_are_levels()
-    ensures { WeavesGoOn }
+    ensures begins { WeavingBegins }
+    ensures goes_on { WeavingGoesOn }
+    ensures ends { WeavingEnds }
+    ensures may_stop { WeavingMayStop }
+{}
+
+/// What levels hold may be more than what lives.
+pub fn the_dead_may_stay()
+    ensures places { PlacesMayGo }
+    ensures rows { DeadMayGo }
 {}
