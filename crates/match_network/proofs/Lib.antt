@@ -6,3 +6,5 @@ pub mod ComeLemmas
 -- what a weave makes, and what it leaves of levels
 pub mod WeaveLemmas
 pub mod LevelLemmas
+-- rows of one width in one list
+pub mod TableLemmas

@@ -7,3 +7,5 @@ pub mod Woven
 pub mod Levels
 -- what weaving gives, as laws
 pub mod Laws
+-- rows of one width in one list
+pub mod RowTable

@@ -3,3 +3,6 @@
 #![tactic(auto)]
 
 pub mod laws;
+mod rows;
+
+pub use rows::Rows;
