@@ -8,3 +8,5 @@ pub mod WeaveLemmas
 pub mod LevelLemmas
 -- rows of one width in one list
 pub mod TableLemmas
+-- tags that rise
+pub mod TagLemmas

@@ -9,3 +9,5 @@ pub mod Levels
 pub mod Laws
 -- rows of one width in one list
 pub mod RowTable
+-- the elements that came, and the places in working memory
+pub mod Arrivals

@@ -3,6 +3,8 @@
 #![tactic(auto)]
 
 pub mod laws;
+mod arrivals;
 mod rows;
 
+pub use arrivals::Arrivals;
 pub use rows::Rows;
