@@ -1,0 +1,4 @@
+-- the numbers under each hash
+pub mod Buckets
+-- the links that hold them
+pub mod Links
