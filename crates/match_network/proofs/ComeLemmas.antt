@@ -1,5 +1,5 @@
 -- Rows of elements that came: one more element that comes changes nothing in them.
-use Rattle.std.proofs.Common.{◌≡◌, ℕ, ◌+◌, ◌<◌, ◌≤◌, ◌==◌, List, [], ◌∷◌, ◌++◌, Bool, true, false, not, cond, ◌&&◌, ◌||◌, eqb, length, map, reverse, zero, suc, refl, ap, sym, ◌∙◌, arith, inl, inr, subst, length-append, Option, Some, None, slice_get}
+use Rattle.std.proofs.Common.{◌≡◌, ℕ, ◌+◌, ◌<◌, ◌≤◌, ◌==◌, List, [], ◌∷◌, ◌++◌, Bool, true, false, not, cond, ◌&&◌, ◌||◌, eqb, length, map, reverse, zero, suc, refl, ap, sym, ◌∙◌, arith, inl, inr, subst, length-append, Option, Some, None, slice_get, get_or, option_and_then}
 use Rattle.std.specs.List.{AllByRecursion, cons_option, filter, filter_map, flat_map, list_all, list_any}
 use Rattle.std.proofs.lemmas.Bool.{and_parts, eqb-true, or_cases}
 use Rattle.std.proofs.lemmas.Bool.Decides.{nat_tests}
@@ -82,3 +82,34 @@ made-come joins came places place rows below lt come (suc further) =
       (Each-weaker (λ p. p < length came) (λ p. HaveCome came (row ++ p ∷ [])) (λ p of_p. HaveCome-push came row p of_row of_p) (offered joins came places row)
         (Each-reverse (λ p. p < length came) (filter (extends joins came row) places) (Each-filter (λ p. p < length came) (extends joins came row) places below))))
     (made joins came places place rows further) (made-come joins came places place rows below lt come further))
+
+-- the elements of a row whose elements came are at its positions
+pub record At {X : Type 0} (xs : List X) (i : ℕ) : Type 0 where
+  pub item : X
+  pub is : slice_get xs i ≡ Some item
+
+pub some_at : {X : Type 0} (xs : List X) (i : ℕ) → i < length xs → At xs i
+some_at [] i lt = absurd (omega (arith, lt))
+some_at (x ∷ xs) zero lt = record { item = x; is = refl }
+some_at (x ∷ xs) (suc i) lt = let rest = some_at xs i (omega (arith, lt)) in record { item = rest.item; is = rest.is }
+
+pub elements_of-at : (came : List Element) (row : List ℕ) (i : ℕ) → HaveCome came row → slice_get (elements_of came row) i ≡ option_and_then (slice_get came) (slice_get row i)
+elements_of-at came [] i come = refl
+elements_of-at came (place ∷ row) i come =
+    let first = some_at came place come.0 in
+    ap (λ o. slice_get (cons_option o (elements_of came row)) i) first.is ∙ at_step came place row i first.item first.is (λ k. elements_of-at came row k come.1)
+  where
+    at_step : (came : List Element) (place : ℕ) (row : List ℕ) (i : ℕ) (e : Element) → slice_get came place ≡ Some e → ((k : ℕ) → slice_get (elements_of came row) k ≡ option_and_then (slice_get came) (slice_get row k)) → slice_get (e ∷ elements_of came row) i ≡ option_and_then (slice_get came) (slice_get (place ∷ row) i)
+    at_step came place row zero e is rest = sym is
+    at_step came place row (suc i) e is rest = rest i
+
+-- an item by its place, in both ways of saying it
+pub slice_get-here : {X : Type 0} (xs : List X) (i : ℕ) (x : X) → i < length xs → x ≡ get_or xs i x → slice_get xs i ≡ Some x
+slice_get-here [] i x lt is = absurd (omega (arith, lt))
+slice_get-here (y ∷ xs) zero x lt is = ap (λ z. Some z) (sym is)
+slice_get-here (y ∷ xs) (suc i) x lt is = slice_get-here xs i x (omega (arith, lt)) is
+
+pub slice_get-past : {X : Type 0} (xs : List X) (i : ℕ) → length xs ≤ i → slice_get xs i ≡ None
+slice_get-past [] i le = refl
+slice_get-past (x ∷ xs) zero le = absurd (omega (arith, le))
+slice_get-past (x ∷ xs) (suc i) le = slice_get-past xs i (omega (arith, le))

@@ -3,7 +3,7 @@ use Rattle.std.proofs.Common.{◌≡◌, ℕ, ◌+◌, ◌-◌, ◌*◌, ◌<◌
 use Rattle.std.specs.List.{AllByRecursion}
 use Rattle.std.proofs.Math.Nat.{suc-mul}
 use Rattle.std.proofs.lemmas.Nat.{row_fits}
-use Rattle.std.proofs.lemmas.List.{drop-append-le, drop-drop, length-take-le, nil_from_length, take-append-le, take_all}
+use Rattle.std.proofs.lemmas.List.{drop-append-le, drop-drop, drop-take, take-take, length-take-le, nil_from_length, take-append-le, take_all}
 use Rattle.match_network.specs.RowTable.{AreRows, rows_in}
 
 -- one row more
@@ -48,3 +48,21 @@ row_within width count places row full lt = omega (arith, full, row_fits row wid
 pub rows_in-pushed : (width count : ℕ) (places row now : List ℕ) → length places ≡ count * width → length row ≡ width → now ≡ places ++ row → rows_in width now (count + 1) ≡ rows_in width places count ++ row ∷ []
 rows_in-pushed width count places row now full long is =
     ap (rows_in width now) (let same : count + 1 ≡ suc count = omega arith in same) ∙ ap (λ ps. rows_in width ps (suc count)) is ∙ rows_in-push width count places row full long
+
+-- one row less
+take_rows : (width count : ℕ) (places : List ℕ) → take count (rows_in width places (suc count)) ≡ rows_in width places count
+take_rows width zero places = refl
+take_rows width (suc count) places = ap (λ rows. take width places ∷ rows) (take_rows width count (drop width places))
+
+rows_in-take : (width count more : ℕ) (places : List ℕ) → rows_in width (take (count * width + more) places) count ≡ rows_in width places count
+rows_in-take width zero more places = refl
+rows_in-take width (suc count) more places =
+    let n : suc count * width + more ≡ width + (count * width + more) = omega (arith, suc-mul count width) in
+    ap (λ m. rows_in width (take m places) (suc count)) n
+    ∙ ap (λ r. r ∷ rows_in width (drop width (take (width + (count * width + more)) places)) count) (take-take width (width + (count * width + more)) places (omega arith))
+    ∙ ap (λ ps. take width places ∷ rows_in width ps count) (drop-take width (count * width + more) places)
+    ∙ ap (λ rows. take width places ∷ rows) (rows_in-take width count more (drop width places))
+
+pub rows_in-pop : (width count : ℕ) (places : List ℕ) → rows_in width (take (count * width) places) count ≡ take count (rows_in width places (suc count))
+rows_in-pop width count places =
+    ap (λ n. rows_in width (take n places) count) (let same : count * width ≡ count * width + 0 = omega arith in same) ∙ rows_in-take width count 0 places ∙ sym (take_rows width count places)

@@ -11,3 +11,6 @@ pub mod Laws
 pub mod RowTable
 -- the elements that came, and the places in working memory
 pub mod Arrivals
+-- what is filed under the hashes of keys
+pub mod Filed
+pub mod SoFar

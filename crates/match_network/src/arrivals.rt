@@ -8,7 +8,9 @@ ghost use Rattle.rule_base.specs.Memory.{Rises, tags_of};
 ghost use Rattle.rule_base.specs.Numbers.{has_number};
 ghost use Rattle.rule_base.specs.Views.{element_in};
 ghost use Rattle.match_network.specs.Arrivals.{has_tag, with_arrival, without_tag};
+ghost use Rattle.match_network.specs.Row.{is_living};
 
+use hash_buckets::Living;
 use ops_text::OutOfMemory;
 use rule_base::{ElementView, Elements, Steps};
 use std::alloc::Global;
@@ -92,6 +94,14 @@ impl Arrivals {
         self.memory.has(place as usize)
     }
 
+    /// Whether all places of a row are in working memory. It looks at one after another, up to the first
+    /// that isn't.
+    pub fn have(&self, row: &[u32]) -> bool
+        ensures { result ≡ is_living self.now.places row.now }
+    {
+        row.iter().all(|place| self.has(*place))
+    }
+
     /// The element that came at a place.
     pub fn at(&self, place: u32) -> ElementView<'_>
         requires { place < length self.now.came }
@@ -108,6 +118,16 @@ impl Arrivals {
         ensures rising { Rises self.now.places × AllByRecursion (λ p. p < length self.now.came) self.now.places }
     {
         self.elements.len()
+    }
+}
+
+impl Living for Arrivals {
+    ghost use Rattle.rule_base.specs.Numbers.{has_number};
+
+    ghost lives = { λ a. has_number a.places };
+
+    fn is_living(&self, number: u32) -> bool {
+        self.has(number)
     }
 }
 

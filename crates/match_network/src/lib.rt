@@ -4,7 +4,10 @@
 
 pub mod laws;
 mod arrivals;
+mod level;
+mod row_view;
 mod rows;
 
 pub use arrivals::Arrivals;
+pub use level::Level;
 pub use rows::Rows;

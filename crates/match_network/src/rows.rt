@@ -1,6 +1,6 @@
 //! Rows of places, all of one width, in one block. It knows no elements.
 
-ghost use Rattle.std.specs.Prelude.{◌≡◌, ◌+◌, ◌<◌, ◌^◌, [], ◌∷◌, ◌++◌, OnErr, OnOk, Some, length, slice_get};
+ghost use Rattle.std.specs.Prelude.{◌≡◌, ◌+◌, ◌-◌, ◌<◌, ◌^◌, [], ◌∷◌, ◌++◌, OnErr, OnOk, Some, length, slice_get, take};
 ghost use Rattle.std.specs.List.{AllByRecursion};
 ghost use Rattle.match_network.specs.RowTable.{with_row};
 
@@ -72,6 +72,16 @@ impl Rows {
         push_both(&mut self.places, row, place)?;
         self.count += 1;
         Ok(())
+    }
+
+    /// Takes the last row away.
+    pub fn pop(&mut self)
+        requires { 0 < length self.old.rows }
+        ensures width { self.new.width ≡ self.old.width }
+        ensures rows { self.new.rows ≡ take (length self.old.rows - 1) self.old.rows }
+    {
+        self.count -= 1;
+        self.places.truncate(self.count * self.width);
     }
 }
 
