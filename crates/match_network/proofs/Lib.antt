@@ -10,3 +10,6 @@ pub mod LevelLemmas
 pub mod TableLemmas
 -- tags that rise
 pub mod TagLemmas
+-- levels while rows are added, and what their buckets hold
+pub mod SoFarLemmas
+pub mod FiledLemmas

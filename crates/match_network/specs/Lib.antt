@@ -14,3 +14,4 @@ pub mod Arrivals
 -- what is filed under the hashes of keys
 pub mod Filed
 pub mod SoFar
+pub mod Joining

@@ -67,6 +67,15 @@ impl Level {
         &self.rows
     }
 
+    /// The row with this number.
+    pub(crate) fn row(&self, number: u32) -> &[u32]
+        requires { number < length self.now.rows }
+        ensures row { slice_get self.now.rows number ≡ Some result.now }
+        ensures width { length result.now ≡ self.now.width }
+    {
+        self.rows.at(number as usize)
+    }
+
     /// Adds a row and one more place as a row, and files it for the first of the condition elements that
     /// follow. After want of memory all is as before.
     pub(crate) fn push(

@@ -7,6 +7,7 @@ mod arrivals;
 mod level;
 mod row_view;
 mod rows;
+mod stage;
 
 pub use arrivals::Arrivals;
 pub use level::Level;

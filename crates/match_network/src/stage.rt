@@ -1,0 +1,170 @@
+//! One condition element's stage: rows that its elements join go on to the next level.
+
+ghost use Rattle.std.specs.Prelude.{◌≡◌, ℕ, ◌+◌, ◌<◌, ◌≤◌, [], ◌∷◌, ◌&&◌, drop, if◌then◌else◌, OnErr, OnOk, length, map, reverse};
+ghost use Rattle.std.specs.List.{AllByRecursion};
+ghost use Rattle.rule_base.specs.Numbers.{has_number};
+ghost use Rattle.rule_base.specs.Views.{element_in};
+ghost use Rattle.join_tests.specs.Joining.{same_key};
+ghost use Rattle.hash_buckets.specs.Buckets.{numbers_of};
+ghost use Rattle.match_network.specs.Filed.{IsFiled, IsStore, only, passes_at, with_rows};
+ghost use Rattle.match_network.specs.Joining.{IsCleaned, agrees, agrees_at, extended, taken, takes};
+ghost use Rattle.match_network.specs.Levels.{HaveCome};
+ghost use Rattle.match_network.specs.SoFar.{IsPart};
+ghost use Rattle.match_network.specs.Woven.{grown, joined, offered, with_place};
+
+use crate::row_view::RowView;
+use crate::{Arrivals, Level, Rows};
+use hash_buckets::Buckets;
+use join_tests::{Join, element_hash, row_hash, same_key, tests_hold};
+use ops_text::OutOfMemory;
+use rule_base::{ElementView, Steps};
+use std::sync::ledger::Ledger;
+
+/// A positive condition element, those that follow it, and the elements that came.
+#[derive(Drop)]
+pub(crate) struct Stage<'a> {
+    pub(crate) join: &'a Join,
+    pub(crate) next: &'a [Join],
+    pub(crate) arrivals: &'a Arrivals,
+}
+
+/// Whether an element agrees with a row, in its key and in its other tests. It counts a step where the
+/// keys agree.
+fn agrees<L: Ledger>(
+    join: &Join,
+    row: &RowView<'_>,
+    element: ElementView<'_>,
+    steps: &mut Steps<L>,
+) -> bool
+    ensures answer { result ≡ agrees join.now row.now (element_in element.entry) }
+    ensures steps { steps.new ≡ steps.old + (if same_key join.now.key row.now (element_in element.entry) then 1 else 0) }
+{
+    if !same_key(join.key.as_slice(), row, element) {
+        return false;
+    }
+    steps.tick();
+    tests_hold(join.tests.as_slice(), row, element)
+}
+
+/// Whether a place is in a row.
+fn has_place(row: &[u32], place: u32) -> bool
+    ensures { result ≡ has_number row.now place }
+{
+    row.iter().any(|other| *other == place)
+}
+
+/// Whether the element at a place agrees with those of a row.
+fn agrees_at<L: Ledger>(
+    stage: &Stage<'_>,
+    row: &[u32],
+    place: u32,
+    steps: &mut Steps<L>,
+) -> bool
+    requires come { HaveCome stage.now.arrivals.now.came row.now }
+    requires place { place < length stage.now.arrivals.now.came }
+    ensures { result ≡ agrees_at stage.now.join.now stage.now.arrivals.now.came row.now place }
+{
+    let element = stage.arrivals.at(place);
+    agrees(stage.join, &RowView::new(row, stage.arrivals), element, steps)
+}
+
+/// Whether a row is without a place, and the element there agrees with its own.
+fn takes<L: Ledger>(stage: &Stage<'_>, row: &[u32], place: u32, steps: &mut Steps<L>) -> bool
+    requires come { HaveCome stage.now.arrivals.now.came row.now }
+    requires place { place < length stage.now.arrivals.now.came }
+    ensures { result ≡ takes stage.now.join.now stage.now.arrivals.now.came place row.now }
+{
+    !has_place(row, place) && agrees_at(stage, row, place, steps)
+}
+
+/// Adds the row with this number and a place to the next level, if the row takes the place.
+fn take_place<L: Ledger>(
+    stage: &Stage<'_>,
+    before: &Level,
+    number: u32,
+    place: u32,
+    after: &mut Level,
+    steps: &mut Steps<L>,
+) -> Result<(), OutOfMemory>
+    requires number { number < length before.now.rows }
+    requires come { AllByRecursion (HaveCome stage.now.arrivals.now.came) before.now.rows }
+    requires place { place < length stage.now.arrivals.now.came }
+    requires width { before.now.width + 1 ≡ after.old.width }
+    ensures ok { OnOk result (after.new ≡ with_rows stage.now.next.now stage.now.arrivals.now.came after.old
+        (taken stage.now.join.now stage.now.arrivals.now.came place before.now.rows (number ∷ []))) }
+    ensures err { OnErr result (after.new ≡ after.old) }
+{
+    let row = before.row(number);
+    if !takes(stage, row, place, steps) {
+        return Ok(());
+    }
+    after.push(row, place, stage.next, stage.arrivals)
+}
+
+/// Adds a row and a place to the next level, if the element there agrees with those of the row.
+fn extend<L: Ledger>(
+    stage: &Stage<'_>,
+    row: &[u32],
+    place: u32,
+    after: &mut Level,
+    steps: &mut Steps<L>,
+) -> Result<(), OutOfMemory>
+    requires come { HaveCome stage.now.arrivals.now.came row.now }
+    requires place { place < length stage.now.arrivals.now.came }
+    requires width { length row.now + 1 ≡ after.old.width }
+    ensures ok { OnOk result (after.new ≡ with_rows stage.now.next.now stage.now.arrivals.now.came after.old
+        (extended stage.now.join.now stage.now.arrivals.now.came row.now (place ∷ []))) }
+    ensures err { OnErr result (after.new ≡ after.old) }
+{
+    if !agrees_at(stage, row, place, steps) {
+        return Ok(());
+    }
+    after.push(row, place, stage.next, stage.arrivals)
+}
+
+/// Adds the rows of a bucket that take a place, each with it, to the next level.
+fn take_place_in<L: Ledger>(
+    stage: &Stage<'_>,
+    hash: u64,
+    before: &Level,
+    place: u32,
+    after: &mut Level,
+    steps: &mut Steps<L>,
+) -> Result<(), OutOfMemory>
+    requires numbered { AllByRecursion (λ (e : ℕ × ℕ). e.1 < length before.now.rows) before.now.entries }
+    requires come { AllByRecursion (HaveCome stage.now.arrivals.now.came) before.now.rows }
+    requires place { place < length stage.now.arrivals.now.came }
+    requires width { before.now.width + 1 ≡ after.old.width }
+    ensures ok { OnOk result (after.new ≡ with_rows stage.now.next.now stage.now.arrivals.now.came after.old
+        (taken stage.now.join.now stage.now.arrivals.now.came place before.now.rows (reverse (numbers_of before.now.entries hash)))) }
+    ensures err { OnErr result (IsPart stage.now.next.now stage.now.arrivals.now.came after.old after.new
+        (taken stage.now.join.now stage.now.arrivals.now.came place before.now.rows (reverse (numbers_of before.now.entries hash)))) }
+{
+    for number in before.bucket(hash) {
+        take_place(stage, before, number, place, after, steps)?;
+    }
+    Ok(())
+}
+
+/// Adds a row with each place of a bucket whose element agrees with its own to the next level.
+fn extend_by<L: Ledger>(
+    stage: &Stage<'_>,
+    row: &[u32],
+    hash: u64,
+    store: &Buckets,
+    after: &mut Level,
+    steps: &mut Steps<L>,
+) -> Result<(), OutOfMemory>
+    requires have_come { AllByRecursion (λ (e : ℕ × ℕ). e.1 < length stage.now.arrivals.now.came) store.now.entries }
+    requires come { HaveCome stage.now.arrivals.now.came row.now }
+    requires width { length row.now + 1 ≡ after.old.width }
+    ensures ok { OnOk result (after.new ≡ with_rows stage.now.next.now stage.now.arrivals.now.came after.old
+        (extended stage.now.join.now stage.now.arrivals.now.came row.now (reverse (numbers_of store.now.entries hash)))) }
+    ensures err { OnErr result (IsPart stage.now.next.now stage.now.arrivals.now.came after.old after.new
+        (extended stage.now.join.now stage.now.arrivals.now.came row.now (reverse (numbers_of store.now.entries hash)))) }
+{
+    for place in store.bucket(hash) {
+        extend(stage, row, place, after, steps)?;
+    }
+    Ok(())
+}
