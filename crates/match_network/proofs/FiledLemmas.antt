@@ -1,8 +1,8 @@
 -- What is found under a hash: just the living rows, or elements, that have the key.
-use Rattle.std.proofs.Common.{◌≡◌, ℕ, ◌+◌, ◌<◌, ◌==◌, List, [], ◌∷◌, ◌++◌, Bool, true, false, not, cond, ◌&&◌, ◌||◌, drop, length, map, reverse, zero, suc, refl, ap, sym, ◌∙◌, arith, Option, None, Some, slice_get}
+use Rattle.std.proofs.Common.{◌≡◌, ℕ, ◌+◌, ◌<◌, ◌≤◌, ◌==◌, ◌⊎◌, inl, inr, List, [], ◌∷◌, ◌++◌, Bool, true, false, not, cond, ◌&&◌, ◌||◌, drop, length, map, reverse, zero, suc, refl, ap, sym, ◌∙◌, arith, subst, Option, None, Some, slice_get}
 use Rattle.std.specs.List.{AllByRecursion, filter, list_all}
 use Rattle.std.specs.Option.{option_map_or}
-use Rattle.std.proofs.lemmas.Bool.{and_parts, eq-eqb, eqb-true}
+use Rattle.std.proofs.lemmas.Bool.{and_from, and_parts, cases_lt, eq-eqb, eqb-true}
 use Rattle.std.proofs.lemmas.Bool.Decides.{Decides-int_eq}
 use Rattle.std.proofs.lemmas.List.{append-nil, map-append, reverse-append}
 use Rattle.std.proofs.lemmas.List.Elements.{filter-append}
@@ -12,17 +12,18 @@ use Rattle.rule_base.specs.declared.value.Value.TheVariants.{Int, Sym}
 use Rattle.rule_base.specs.Numbers.{has_number}
 use Rattle.rule_base.specs.Value.{same_value}
 use Rattle.rule_base.proofs.EachLemmas.{Each-always, Each-filter}
-use Rattle.working_memory.proofs.PlaceLemmas.{filter-both}
+use Rattle.working_memory.proofs.PlaceLemmas.{filter-all, filter-both}
 use Rattle.hash_buckets.specs.Buckets.{numbers_of, stays}
 use Rattle.join_tests.specs.declared.joins.Join.{Join}
 use Rattle.join_tests.specs.declared.joins.KeyPart.{KeyPart}
 use Rattle.join_tests.specs.Hashing.{hash_of}
 use Rattle.join_tests.specs.Joining.{key_of_element, key_of_row, passes, same_key, tests_hold}
 use Rattle.join_tests.specs.Reading.{value_at, value_in}
-use Rattle.match_network.specs.Filed.{IsFiled, IsStore, LevelRows, filed_rows, hash_at, living_entries, only, passes_at, row_at, row_hash, row_lives}
-use Rattle.match_network.specs.Joining.{agrees, agrees_at, extended, taken, takes}
+use Rattle.match_network.specs.Filed.{IsFiled, IsStore, LevelRows, filed, filed_rows, hash_at, living_entries, only, passes_at, row_at, row_hash, row_lives}
+use Rattle.match_network.specs.Joining.{IsCleaned, agrees, agrees_at, extended, taken, takes}
 use Rattle.match_network.specs.Row.{elements_of, extends, is_living, some_passes}
 use Rattle.match_network.specs.Woven.{joined, offered, with_place}
+use Rattle.match_network.proofs.ComeLemmas.{slice_get-past}
 use Rattle.match_network.proofs.SoFarLemmas.{row_at-is}
 
 -- lists turned round
@@ -208,3 +209,88 @@ extended_found join came places row entries held =
     (filter-reverse (agrees_at join came row) (numbers_of (filter (stays hash (has_number places)) entries) hash)
       ∙ ap (λ ps. reverse (filter (agrees_at join came row) ps)) found
       ∙ ap reverse (sym (filter-both (agrees_at join came row) mid goes places (Each-always (λ p. goes p ≡ (agrees_at join came row p && mid p)) (λ p. offered_found join came row (slice_get came p)) places))))
+
+-- what was cleaned still holds all that lives
+alive_step : (under alive : Bool) → alive ≡ (alive && (not under || alive))
+alive_step true true = refl
+alive_step true false = refl
+alive_step false true = refl
+alive_step false false = refl
+
+pub IsFiled-cleaned : (next : List Join) (came : List Element) (places : List ℕ) (old new : LevelRows) (hash : ℕ) → IsFiled next came places old → new.rows ≡ old.rows → new.entries ≡ filter (stays hash (row_lives places old.rows)) old.entries → IsFiled next came places new
+IsFiled-cleaned next came places old new hash held rows is =
+    let lives = row_lives places old.rows in
+    let alive : ℕ × ℕ → Bool = λ e. lives e.1 in
+    let kept : living_entries lives new.entries ≡ living_entries lives (filed next came 0 old.rows) =
+    ap (living_entries lives) is
+    ∙ sym (filter-both alive (stays hash lives) alive old.entries (Each-always (λ e. alive e ≡ (alive e && stays hash lives e)) (λ e. alive_step (e.0 == hash) (alive e)) old.entries))
+    ∙ held.living in
+    record {
+      living = subst (λ rs. living_entries (row_lives places rs) new.entries ≡ living_entries (row_lives places rs) (filed next came 0 rs)) (sym rows) kept;
+      numbered = subst (λ rs. AllByRecursion (λ (e : ℕ × ℕ). e.1 < length rs) new.entries) (sym rows)
+        (subst (λ es. AllByRecursion (λ (e : ℕ × ℕ). e.1 < length old.rows) es) (sym is) (Each-filter (λ (e : ℕ × ℕ). e.1 < length old.rows) (stays hash lives) old.entries held.numbered));
+    }
+
+pub IsCleaned-stays : (places : List ℕ) (old new : List (ℕ × ℕ)) (hash : ℕ) → new ≡ filter (stays hash (has_number places)) old → IsCleaned places old new
+IsCleaned-stays places old new hash is = record {
+  keep = stays hash (has_number places);
+  is = is;
+  living = λ entry alive. ap (λ b. not (entry.0 == hash) || b) alive ∙ or_true (not (entry.0 == hash));
+}
+  where
+    or_true : (b : Bool) → (b || true) ≡ true
+    or_true true = refl
+    or_true false = refl
+
+pub IsCleaned-none : (places : List ℕ) (entries : List (ℕ × ℕ)) → IsCleaned places entries entries
+IsCleaned-none places entries = record {
+  keep = λ entry. true;
+  is = sym (filter-all (λ entry. true) entries (Each-always (λ e. true ≡ true) (λ e. refl) entries));
+  living = λ entry alive. refl;
+}
+
+pub IsCleaned-more : (places : List ℕ) (old now new : List (ℕ × ℕ)) → IsCleaned places old now → IsCleaned places now new → IsCleaned places old new
+IsCleaned-more places old now new first second = record {
+  keep = λ entry. second.keep entry && first.keep entry;
+  is = second.is ∙ ap (filter second.keep) first.is ∙ sym (filter-both second.keep first.keep (λ entry. second.keep entry && first.keep entry) old (Each-always (λ e. (second.keep e && first.keep e) ≡ (second.keep e && first.keep e)) (λ e. refl) old));
+  living = λ entry alive. and_from (second.keep entry) (first.keep entry) (second.living entry alive) (first.living entry alive);
+}
+
+kept_step : (alive keep : Bool) → (alive ≡ true → keep ≡ true) → alive ≡ (alive && keep)
+kept_step true keep is = sym (is refl)
+kept_step false keep is = refl
+
+pub IsStore-cleaned : (join : Join) (came : List Element) (places : List ℕ) (old new : List (ℕ × ℕ)) → IsCleaned places old new → IsStore join came places old → IsStore join came places new
+IsStore-cleaned join came places old new cleaned held =
+    let alive : ℕ × ℕ → Bool = λ e. has_number places e.1 in
+    record {
+      living = ap (living_entries (has_number places)) cleaned.is
+        ∙ sym (filter-both alive cleaned.keep alive old (Each-always (λ e. alive e ≡ (alive e && cleaned.keep e)) (λ e. kept_step (alive e) (cleaned.keep e) (cleaned.living e)) old))
+        ∙ held.living;
+      have_come = subst (λ es. AllByRecursion (λ (e : ℕ × ℕ). e.1 < length came) es) (sym cleaned.is) (Each-filter (λ (e : ℕ × ℕ). e.1 < length came) cleaned.keep old held.have_come);
+    }
+
+-- the same of a level and a store that were cleaned
+pub taken_in : (join : Join) (next : List Join) (came : List Element) (places : List ℕ) (place hash : ℕ) (level new : LevelRows) → IsFiled (join ∷ next) came places level → passes_at join came place ≡ true → hash ≡ hash_at join came place → new.rows ≡ level.rows → new.entries ≡ filter (stays hash (row_lives places level.rows)) level.entries → taken join came place new.rows (reverse (numbers_of new.entries hash)) ≡ map (with_place place) (joined (only join) came places place level.rows)
+taken_in join next came places place hash level new held passed is rows entries =
+    ap (λ rs. taken join came place rs (reverse (numbers_of new.entries hash))) rows
+    ∙ ap (λ es. taken join came place level.rows (reverse (numbers_of es hash))) entries
+    ∙ ap (λ h. taken join came place level.rows (reverse (numbers_of (filter (stays h (row_lives places level.rows)) level.entries) h))) is
+    ∙ taken_found join next came places place level held passed
+
+pub extended_in : (join : Join) (came : List Element) (places row : List ℕ) (hash : ℕ) (old new : List (ℕ × ℕ)) → IsStore join came places old → hash ≡ row_hash join came row → new ≡ filter (stays hash (has_number places)) old → extended join came row (reverse (numbers_of new hash)) ≡ map (λ p. with_place p row) (offered (only join) came places row)
+extended_in join came places row hash old new held is entries =
+    ap (λ es. extended join came row (reverse (numbers_of es hash))) entries
+    ∙ ap (λ h. extended join came row (reverse (numbers_of (filter (stays h (has_number places)) old) h))) is
+    ∙ extended_found join came places row old held
+
+pub hash_at-is : (join : Join) (came : List Element) (place : ℕ) (e : Element) → slice_get came place ≡ Some e → hash_of (key_of_element join.key e) ≡ hash_at join came place
+hash_at-is join came place e at = sym (ap (λ o. option_map_or (λ x. hash_of (key_of_element join.key x)) o 0) at)
+
+-- a place that passes came
+passed_step : (join : Join) (came : List Element) (place : ℕ) → passes_at join came place ≡ true → (place < length came) ⊎ (length came ≤ place) → place < length came
+passed_step join came place passed (inl lt) = lt
+passed_step join came place passed (inr le) = absurd (let gone : some_passes (passes join.pattern) (slice_get came place) ≡ false = ap (some_passes (passes join.pattern)) (slice_get-past came place le) in let wrong : ⊥ = cc in wrong)
+
+pub passed_came : (join : Join) (came : List Element) (place : ℕ) → passes_at join came place ≡ true → place < length came
+passed_came join came place passed = passed_step join came place passed (cases_lt place (length came))

@@ -1,6 +1,6 @@
 //! One condition element's stage: rows that its elements join go on to the next level.
 
-ghost use Rattle.std.specs.Prelude.{◌≡◌, ℕ, ◌+◌, ◌<◌, ◌≤◌, [], ◌∷◌, ◌&&◌, drop, if◌then◌else◌, OnErr, OnOk, length, map, reverse};
+ghost use Rattle.std.specs.Prelude.{◌≡◌, ℕ, ◌+◌, ◌<◌, ◌≤◌, [], ◌∷◌, ◌&&◌, drop, if◌then◌else◌, OnErr, OnOk, length, map, reverse, true};
 ghost use Rattle.std.specs.List.{AllByRecursion};
 ghost use Rattle.rule_base.specs.Numbers.{has_number};
 ghost use Rattle.rule_base.specs.Views.{element_in};
@@ -165,6 +165,84 @@ fn extend_by<L: Ledger>(
 {
     for place in store.bucket(hash) {
         extend(stage, row, place, after, steps)?;
+    }
+    Ok(())
+}
+
+/// Adds each row of a level that takes a place, with it, to the next level. The bucket that it looks
+/// into is cleaned of dead rows first.
+pub(crate) fn join_place<L: Ledger>(
+    stage: &Stage<'_>,
+    place: u32,
+    before: &mut Level,
+    after: &mut Level,
+    steps: &mut Steps<L>,
+) -> Result<(), OutOfMemory>
+    requires filed { IsFiled (stage.now.join.now ∷ stage.now.next.now) stage.now.arrivals.now.came stage.now.arrivals.now.places before.old }
+    requires come { AllByRecursion (HaveCome stage.now.arrivals.now.came) before.old.rows }
+    requires passes { passes_at stage.now.join.now stage.now.arrivals.now.came place ≡ true }
+    requires width { before.old.width + 1 ≡ after.old.width }
+    ensures ok { OnOk result (after.new ≡ with_rows stage.now.next.now stage.now.arrivals.now.came after.old
+        (map (with_place place) (joined (only stage.now.join.now) stage.now.arrivals.now.came stage.now.arrivals.now.places place before.old.rows))) }
+    ensures err { OnErr result (IsPart stage.now.next.now stage.now.arrivals.now.came after.old after.new
+        (map (with_place place) (joined (only stage.now.join.now) stage.now.arrivals.now.came stage.now.arrivals.now.places place before.old.rows))) }
+    ensures rows { (before.new.rows ≡ before.old.rows) × (before.new.width ≡ before.old.width) }
+    ensures filed { IsFiled (stage.now.join.now ∷ stage.now.next.now) stage.now.arrivals.now.came stage.now.arrivals.now.places before.new }
+{
+    let element = stage.arrivals.at(place);
+    let hash = element_hash(stage.join.key.as_slice(), element);
+    before.clean(hash, stage.arrivals);
+    take_place_in(stage, hash, before, place, after, steps)
+}
+
+/// Adds a row with each place of a store whose element joins its own to the next level. The bucket that
+/// it looks into is cleaned of dead elements first.
+fn extend_row<L: Ledger>(
+    stage: &Stage<'_>,
+    row: &[u32],
+    store: &mut Buckets,
+    after: &mut Level,
+    steps: &mut Steps<L>,
+) -> Result<(), OutOfMemory>
+    requires store { IsStore stage.now.join.now stage.now.arrivals.now.came stage.now.arrivals.now.places store.old.entries }
+    requires come { HaveCome stage.now.arrivals.now.came row.now }
+    requires width { length row.now + 1 ≡ after.old.width }
+    ensures ok { OnOk result (after.new ≡ with_rows stage.now.next.now stage.now.arrivals.now.came after.old
+        (map (λ p. with_place p row.now) (offered (only stage.now.join.now) stage.now.arrivals.now.came stage.now.arrivals.now.places row.now))) }
+    ensures err { OnErr result (IsPart stage.now.next.now stage.now.arrivals.now.came after.old after.new
+        (map (λ p. with_place p row.now) (offered (only stage.now.join.now) stage.now.arrivals.now.came stage.now.arrivals.now.places row.now))) }
+    ensures store { IsCleaned stage.now.arrivals.now.places store.old.entries store.new.entries }
+{
+    let hash = row_hash(
+        stage.join.key.as_slice(),
+        &RowView::new(row, stage.arrivals),
+    );
+    store.clean(hash, stage.arrivals);
+    extend_by(stage, row, hash, store, after, steps)
+}
+
+/// Adds the rows of a level from this number on, each with each place of a store whose element joins
+/// its own, to the next level.
+pub(crate) fn grow<L: Ledger>(
+    stage: &Stage<'_>,
+    from: &Rows,
+    first: usize,
+    store: &mut Buckets,
+    after: &mut Level,
+    steps: &mut Steps<L>,
+) -> Result<(), OutOfMemory>
+    requires store { IsStore stage.now.join.now stage.now.arrivals.now.came stage.now.arrivals.now.places store.old.entries }
+    requires come { AllByRecursion (HaveCome stage.now.arrivals.now.came) from.now.rows }
+    requires width { from.now.width + 1 ≡ after.old.width }
+    requires first { first ≤ length from.now.rows }
+    ensures ok { OnOk result (after.new ≡ with_rows stage.now.next.now stage.now.arrivals.now.came after.old
+        (grown (only stage.now.join.now) stage.now.arrivals.now.came stage.now.arrivals.now.places (drop first from.now.rows))) }
+    ensures err { OnErr result (IsPart stage.now.next.now stage.now.arrivals.now.came after.old after.new
+        (grown (only stage.now.join.now) stage.now.arrivals.now.came stage.now.arrivals.now.places (drop first from.now.rows))) }
+    ensures store { IsCleaned stage.now.arrivals.now.places store.old.entries store.new.entries }
+{
+    for number in first..from.len() {
+        extend_row(stage, from.at(number), store, after, steps)?;
     }
     Ok(())
 }

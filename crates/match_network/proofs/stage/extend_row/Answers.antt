@@ -1,0 +1,45 @@
+-- All that has the key is in the bucket.
+use Rattle.std.proofs.Common.{◌≡◌, ℕ, ◌+◌, ◌<◌, ◌∷◌, [], ◌++◌, List, ap, arith, drop, length, map, reverse, rules, subst, sym, ◌∙◌, Some, slice_get}
+use Rattle.std.specs.List.{AllByRecursion}
+use Rattle.std.specs.Result.{OnErr, OnOk}
+use Rattle.rule_base.specs.Numbers.{has_number}
+use Rattle.rule_base.specs.Views.{element_in}
+use Rattle.hash_buckets.specs.Buckets.{numbers_of}
+use Rattle.join_tests.specs.Hashing.{hash_of}
+use Rattle.join_tests.specs.Joining.{key_of_element, key_of_row}
+use Rattle.match_network.specs.Filed.{LevelRows, hash_at, only, row_hash, with_rows}
+use Rattle.match_network.specs.Joining.{IsCleaned, extended, taken}
+use Rattle.match_network.specs.Levels.{HaveCome}
+use Rattle.match_network.specs.SoFar.{IsPart, IsSoFar}
+use Rattle.match_network.specs.Woven.{grown, joined, offered, with_place}
+use Rattle.match_network.proofs.FiledLemmas.{IsCleaned-stays, IsStore-cleaned, extended_in}
+use Rattle.match_network.proofs.stage.extend_row.Goals as goal
+
+pub extend_by-requires-clause-have_come : goal.extend_by-requires-clause-have_come
+extend_by-requires-clause-have_come g c =
+    let stage = c.args.stage.now in
+    (IsStore-cleaned stage.join.now stage.arrivals.now.came stage.arrivals.now.places c.args.store.now.entries c.clean.new.self.entries
+      (IsCleaned-stays stage.arrivals.now.places c.args.store.now.entries c.clean.new.self.entries c.row_hash-hash.result c.clean.ensures.entries) c.requires.store).have_come
+
+pub returns-clause-ok : goal.returns-clause-ok
+returns-clause-ok g c =
+    let stage = c.args.stage.now in
+    let came = stage.arrivals.now.came in
+    let places = stage.arrivals.now.places in
+    let hash : c.row_hash-hash.result ≡ row_hash stage.join.now came c.args.row.now = search rules in
+    subst (λ (rows : List (List ℕ)). OnOk c.extend_by.result (c.extend_by.new.after ≡ with_rows stage.next.now came c.args.after.now rows))
+    (extended_in stage.join.now came places c.args.row.now c.row_hash-hash.result c.args.store.now.entries c.clean.new.self.entries c.requires.store hash c.clean.ensures.entries)
+    c.extend_by.ensures.ok
+
+pub returns-clause-err : goal.returns-clause-err
+returns-clause-err g c =
+    let stage = c.args.stage.now in
+    let came = stage.arrivals.now.came in
+    let places = stage.arrivals.now.places in
+    let hash : c.row_hash-hash.result ≡ row_hash stage.join.now came c.args.row.now = search rules in
+    subst (λ (rows : List (List ℕ)). OnErr c.extend_by.result (IsPart stage.next.now came c.args.after.now c.extend_by.new.after rows))
+    (extended_in stage.join.now came places c.args.row.now c.row_hash-hash.result c.args.store.now.entries c.clean.new.self.entries c.requires.store hash c.clean.ensures.entries)
+    c.extend_by.ensures.err
+
+pub returns-clause-store : goal.returns-clause-store
+returns-clause-store g c = IsCleaned-stays c.args.stage.now.arrivals.now.places c.args.store.now.entries c.clean.new.self.entries c.row_hash-hash.result c.clean.ensures.entries
