@@ -1,7 +1,8 @@
 -- A level while rows are added: a few more, and all of them.
-use Rattle.std.proofs.Common.{◌≡◌, ℕ, ◌+◌, ◌<◌, ◌==◌, List, [], ◌∷◌, ◌++◌, Bool, true, false, cond, length, map, reverse, zero, suc, refl, ap, sym, ◌∙◌, arith, append_assoc, length-append, Option, Some, slice_get}
+use Rattle.std.proofs.Common.{◌≡◌, ℕ, ◌+◌, ◌<◌, ◌≤◌, ◌==◌, List, [], ◌∷◌, ◌++◌, Bool, true, false, cond, drop, length, map, reverse, zero, suc, refl, ap, sym, ◌∙◌, arith, append_assoc, length-append, Option, Some, slice_get}
 use Rattle.std.specs.List.{AllByRecursion, filter, slice_index_or}
-use Rattle.std.proofs.lemmas.List.{append-nil}
+use Rattle.std.proofs.lemmas.List.{append-nil, drop_all}
+use Rattle.std.proofs.lemmas.List.Concat.{flat_map-cons}
 use Rattle.rule_base.specs.declared.element.Element.{Element}
 use Rattle.rule_base.proofs.EachLemmas.{Each-filter, Each-map}
 use Rattle.hash_buckets.specs.Buckets.{numbers_of}
@@ -10,7 +11,8 @@ use Rattle.join_tests.specs.declared.joins.Join.{Join}
 use Rattle.match_network.specs.Filed.{LevelRows, filed, filed_rows, row_at, row_hash, with_rows}
 use Rattle.match_network.specs.Joining.{agrees_at, extended, taken, takes}
 use Rattle.match_network.specs.SoFar.{IsPart, IsSoFar}
-use Rattle.match_network.specs.Woven.{with_place}
+use Rattle.match_network.specs.Woven.{grown, offered, with_place}
+use Rattle.match_network.specs.Row.{Joins}
 
 pub filed_rows-append : (join : Join) (came : List Element) (number : ℕ) (xs ys : List (List ℕ)) → filed_rows join came number (xs ++ ys) ≡ filed_rows join came number xs ++ filed_rows join came (number + length xs) ys
 filed_rows-append join came number [] ys = ap (λ n. filed_rows join came n ys) (let same : number ≡ number + 0 = omega arith in same)
@@ -95,3 +97,17 @@ pub Each-bucket : (P : ℕ → Type 0) (entries : List (ℕ × ℕ)) (hash : ℕ
 Each-bucket P entries hash each =
     Each-reverse P (numbers_of entries hash)
     (Each-map P (λ (e : ℕ × ℕ). e.1) (filter (λ (e : ℕ × ℕ). e.0 == hash) entries) (Each-filter (λ (e : ℕ × ℕ). P e.1) (λ (e : ℕ × ℕ). e.0 == hash) entries each))
+
+-- the rows from a number on are its row and those after it
+pub drop_from : {X : Type 0} (xs : List X) (i : ℕ) (x : X) → slice_get xs i ≡ Some x → drop i xs ≡ x ∷ drop (i + 1) xs
+drop_from [] i x at = absurd (let wrong : ⊥ = cc in wrong)
+drop_from (y ∷ xs) zero x at = let same : y ≡ x = cc in ap (λ z. z ∷ xs) same ∙ ap (λ k. x ∷ drop k (y ∷ xs)) (let one : suc 0 ≡ 0 + 1 = omega arith in one)
+drop_from (y ∷ xs) (suc i) x at = drop_from xs i x at ∙ ap (λ k. x ∷ drop k (y ∷ xs)) (let one : suc (i + 1) ≡ suc i + 1 = omega arith in one)
+
+pub grown-from : (joins : Joins) (came : List Element) (places : List ℕ) (rows : List (List ℕ)) (number : ℕ) (row : List ℕ) → slice_get rows number ≡ Some row → grown joins came places (drop number rows) ≡ map (λ p. with_place p row) (offered joins came places row) ++ grown joins came places (drop (number + 1) rows)
+grown-from joins came places rows number row at =
+    ap (grown joins came places) (drop_from rows number row at)
+    ∙ flat_map-cons (λ r. map (λ p. with_place p r) (offered joins came places r)) row (drop (number + 1) rows)
+
+pub grown-end : (joins : Joins) (came : List Element) (places : List ℕ) (rows : List (List ℕ)) (number : ℕ) → length rows ≤ number → grown joins came places (drop number rows) ≡ []
+grown-end joins came places rows number past = ap (grown joins came places) (drop_all number rows past)
