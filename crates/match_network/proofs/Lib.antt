@@ -13,3 +13,5 @@ pub mod TagLemmas
 -- levels while rows are added, and what their buckets hold
 pub mod SoFarLemmas
 pub mod FiledLemmas
+-- the levels of a rule, by their numbers
+pub mod ConditionLemmas

@@ -15,3 +15,5 @@ pub mod Arrivals
 pub mod Filed
 pub mod SoFar
 pub mod Joining
+-- the levels of a rule
+pub mod Conditions

@@ -8,6 +8,7 @@ mod level;
 mod row_view;
 mod rows;
 mod stage;
+mod weave;
 
 pub use arrivals::Arrivals;
 pub use level::Level;
