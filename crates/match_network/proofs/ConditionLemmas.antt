@@ -1,6 +1,6 @@
 -- The levels of a rule: each by its number, in parts and after a change.
 use Rattle.std.proofs.Common.{◌≡◌, ◌≢◌, ℕ, ◌+◌, ◌-◌, ◌<◌, ◌≤◌, ◌==◌, List, [], ◌∷◌, ◌++◌, Bool, true, false, cond, length, get_or, set, zero, suc, refl, ap, sym, ◌∙◌, arith, length-append, inl, inr}
-use Rattle.std.proofs.lemmas.List.{get_or_append_left, get_or-append_right, get_or_default, get_or-set_other, get_or-set_same, length-set, set-append_right}
+use Rattle.std.proofs.lemmas.List.{get_or_append_left, get_or-append_right, get_or_default, get_or-set_other, get_or-set_same, length-set, set-append_left, set-append_right}
 use Rattle.match_network.specs.Conditions.{level_at, rows_of}
 use Rattle.match_network.specs.Filed.{LevelRows}
 
@@ -23,3 +23,9 @@ back_set levels front back number level is long =
     ap (λ n. front ++ set back n level) (let none : 0 ≡ number - number = omega arith in none)
     ∙ sym (set-append_right front back number number level long (omega arith))
     ∙ ap (λ ls. set ls number level) (sym is)
+
+pub both_set : (levels front back : List LevelRows) (number : ℕ) (before after : LevelRows) → levels ≡ front ++ back → length front ≡ number → 0 < number → set front (number - 1) before ++ set back 0 after ≡ set (set levels (number - 1) before) number after
+both_set levels front back number before after is long some =
+    back_set (set levels (number - 1) before) (set front (number - 1) before) back number after
+    (ap (λ ls. set ls (number - 1) before) is ∙ set-append_left front back (number - 1) before (omega (arith, long, some)))
+    (length-set front (number - 1) before ∙ long)

@@ -1,5 +1,5 @@
 -- The levels of a rule, one for each of its positive condition elements.
-use Rattle.std.specs.Prelude.{◌≡◌, ℕ, ◌+◌, ◌<◌, List, [], ◌∷◌, Bool, false, drop, length, slice_get, slice_index_or, suc, zero, Some}
+use Rattle.std.specs.Prelude.{◌≡◌, ℕ, ◌+◌, ◌-◌, ◌<◌, List, [], ◌∷◌, Bool, false, drop, length, slice_get, slice_index_or, slice_set, suc, zero, Some}
 use Rattle.std.specs.List.{AllByRecursion}
 use Rattle.std.specs.Option.{option_map_or}
 use Rattle.rule_base.specs.declared.element.Element.{Element}
@@ -50,3 +50,11 @@ AreStores all came places numbers stores =
 -- of each store some that doesn't live has gone
 abbrev pub AreCleaned : List ℕ → List Buckets → List Buckets → Type 0
 AreCleaned places old new = (number : ℕ) → IsCleaned places (entries_at old number) (entries_at new number)
+
+-- a level has become another, and in the one before it what is filed was cleaned
+pub record IsBegun (all : List Join) (came : List Element) (places : List ℕ) (number : ℕ) (old : List LevelRows) (new : List LevelRows) (after : LevelRows) : Type 0 where
+  pub before : LevelRows
+  pub width : before.width ≡ (level_at old (number - 1)).width
+  pub rows : before.rows ≡ (level_at old (number - 1)).rows
+  pub filed : IsFiled all came places before
+  pub is : new ≡ slice_set (slice_set old (number - 1) before) number after
