@@ -1,8 +1,9 @@
 -- The levels of a rule, one for each of its positive condition elements.
-use Rattle.std.specs.Prelude.{◌≡◌, ℕ, ◌+◌, ◌-◌, ◌<◌, List, [], ◌∷◌, Bool, false, drop, length, slice_get, slice_index_or, slice_set, suc, zero, Some}
+use Rattle.std.specs.Prelude.{◌≡◌, ℕ, ◌+◌, ◌-◌, ◌<◌, ◌==◌, ◌++◌, true, List, [], ◌∷◌, Bool, false, drop, length, slice_get, slice_index_or, slice_set, suc, zero, Some}
 use Rattle.std.specs.List.{AllByRecursion}
 use Rattle.std.specs.Option.{option_map_or}
 use Rattle.rule_base.specs.declared.element.Element.{Element}
+use Rattle.rule_base.specs.Numbers.{has_number}
 use Rattle.join_tests.specs.declared.joins.Join.{Join}
 use Rattle.join_tests.specs.Joining.{joins}
 use Rattle.hash_buckets.specs.Buckets.{Buckets}
@@ -58,3 +59,17 @@ pub record IsBegun (all : List Join) (came : List Element) (places : List ℕ) (
   pub rows : before.rows ≡ (level_at old (number - 1)).rows
   pub filed : IsFiled all came places before
   pub is : new ≡ slice_set (slice_set old (number - 1) before) number after
+
+-- the rows of one width have become more, and no others
+pub record IsGiven (width : ℕ) (old : Levels) (new : Levels) (rows : List (List ℕ)) : Type 0 where
+  pub given : new width ≡ old width ++ rows
+  pub others : (other : ℕ) → (other == width) ≡ false → new other ≡ old other
+
+-- the rows of one width have become more by the first of these
+abbrev pub IsGivenPart : ℕ → Levels → Levels → List (List ℕ) → Type 0
+IsGivenPart width old new rows = (some : List (List ℕ)) × (rest : List (List ℕ)) × (rows ≡ some ++ rest) × IsGiven width old new some
+
+-- of each width there may be more rows, all with this place
+abbrev pub IsStopped : List Element → ℕ → Levels → Levels → Type 0
+IsStopped came place old new =
+    (width : ℕ) → (more : List (List ℕ)) × (new width ≡ old width ++ more) × AllByRecursion (λ row. HaveCome came row × (has_number row place ≡ true)) more

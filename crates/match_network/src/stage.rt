@@ -102,7 +102,7 @@ fn take_place<L: Ledger>(
 }
 
 /// Adds a row and a place to the next level, if the element there agrees with those of the row.
-fn extend<L: Ledger>(
+pub(crate) fn extend<L: Ledger>(
     stage: &Stage<'_>,
     row: &[u32],
     place: u32,

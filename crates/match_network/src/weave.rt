@@ -2,37 +2,66 @@
 
 ghost use Rattle.std.specs.Prelude.{◌≡◌, ℕ, ◌+◌, ◌-◌, ◌<◌, ◌≤◌, [], ◌∷◌, drop, IfOk, OnErr, OnOk, Some, length, map, slice_get, slice_set, true};
 ghost use Rattle.std.specs.List.{AllByRecursion};
-ghost use Rattle.match_network.specs.Conditions.{IsBegun, level_at};
+ghost use Rattle.join_tests.specs.declared.joins.Join.{Join};
+ghost use Rattle.match_network.specs.Conditions.{AreCleaned, AreFiled, AreStores, IsBegun, IsGiven, IsGivenPart, joins_of, level_at, rows_of};
 ghost use Rattle.match_network.specs.Filed.{IsFiled, IsStore, passes_at, LevelRows, only, with_rows};
-ghost use Rattle.match_network.specs.Joining.{IsCleaned};
+ghost use Rattle.match_network.specs.Joining.{IsCleaned, extended};
 ghost use Rattle.match_network.specs.Levels.{HaveCome};
 ghost use Rattle.match_network.specs.SoFar.{IsPart};
-ghost use Rattle.match_network.specs.Woven.{grown, joined, with_place};
+ghost use Rattle.match_network.specs.Woven.{grown, joined, made, with_place};
 
-use crate::Level;
-use crate::stage::{Stage, grow, join_place};
+use crate::stage::{Stage, extend, grow, join_place};
+use crate::{Arrivals, Level};
 use hash_buckets::Buckets;
+use join_tests::Join;
 use ops_text::OutOfMemory;
 use rule_base::Steps;
 use std::sync::ledger::Ledger;
 
-/// Adds the place alone to the first level. Answers how many rows it had. After want of memory all is as
-/// before.
-fn begin_alone(
+/// The positive condition elements of a rule, the numbers of the stores that have the elements that pass
+/// each, and the elements that came.
+#[derive(Drop)]
+pub struct Conditions<'a> {
+    pub joins: &'a [Join],
+    pub stores: &'a [usize],
+    pub arrivals: &'a Arrivals,
+}
+
+impl<'a> Conditions<'a> {
+    /// The condition element with this number, from 0.
+    fn stage(&self, number: usize) -> Stage<'_>
+        requires { number < length self.now.joins.now }
+        ensures join { slice_get self.now.joins.now number ≡ Some result.join.now }
+        ensures next { result.next.now ≡ drop (number + 1) self.now.joins.now }
+        ensures arrivals { result.arrivals.now ≡ self.now.arrivals.now }
+    {
+        Stage {
+            join: &self.joins[number],
+            next: &self.joins[number + 1..],
+            arrivals: self.arrivals,
+        }
+    }
+}
+
+/// Adds the place alone to the first level, if its element agrees with no others. Answers how many rows
+/// it had. After want of memory all is as before.
+fn begin_alone<L: Ledger>(
     stage: &Stage<'_>,
     place: u32,
     levels: &mut [Level],
+    steps: &mut Steps<L>,
 ) -> Result<usize, OutOfMemory>
     requires some { 0 < length levels.old }
     requires place { place < length stage.now.arrivals.now.came }
     requires width { (level_at levels.old 0).width ≡ 1 }
     ensures count { IfOk result (λ count. count ≡ length (level_at levels.old 0).rows) }
-    ensures ok { OnOk result (levels.new ≡ slice_set levels.old 0 (with_rows stage.now.next.now stage.now.arrivals.now.came (level_at levels.old 0) ((place ∷ []) ∷ []))) }
+    ensures ok { OnOk result (levels.new ≡ slice_set levels.old 0 (with_rows stage.now.next.now stage.now.arrivals.now.came (level_at levels.old 0)
+        (extended stage.now.join.now stage.now.arrivals.now.came [] (place ∷ [])))) }
     ensures err { OnErr result (levels.new ≡ levels.old) }
 {
     let after = &mut levels[0];
     let count = after.rows().len();
-    after.push(&[], place, stage.next, stage.arrivals)?;
+    extend(stage, &[], place, after, steps)?;
     Ok(count)
 }
 
@@ -96,4 +125,60 @@ fn go_on<L: Ledger>(
     let count = after.rows().len();
     grow(stage, from.rows(), first, store, after, steps)?;
     Ok(count)
+}
+
+/// Adds what a place makes at the condition element with this number. Answers how many rows the level
+/// had.
+fn begin<L: Ledger>(
+    conditions: &Conditions<'_>,
+    at: usize,
+    place: u32,
+    levels: &mut [Level],
+    steps: &mut Steps<L>,
+) -> Result<usize, OutOfMemory>
+    requires at { at < length conditions.now.joins.now }
+    requires filed { AreFiled conditions.now.joins.now conditions.now.arrivals.now.came conditions.now.arrivals.now.places levels.old }
+    requires passes { (join : Join) → slice_get conditions.now.joins.now at ≡ Some join → passes_at join conditions.now.arrivals.now.came place ≡ true }
+    ensures count { IfOk result (λ count. count ≡ length (rows_of levels.old (at + 1))) }
+    ensures ok { OnOk result (IsGiven (at + 1) (rows_of levels.old) (rows_of levels.new)
+        (made (joins_of conditions.now.joins.now) conditions.now.arrivals.now.came conditions.now.arrivals.now.places place (rows_of levels.old at) 0)) }
+    ensures err { OnErr result (IsGivenPart (at + 1) (rows_of levels.old) (rows_of levels.new)
+        (made (joins_of conditions.now.joins.now) conditions.now.arrivals.now.came conditions.now.arrivals.now.places place (rows_of levels.old at) 0)) }
+    ensures filed { AreFiled conditions.now.joins.now conditions.now.arrivals.now.came conditions.now.arrivals.now.places levels.new }
+{
+    let stage = conditions.stage(at);
+    if at == 0 {
+        begin_alone(&stage, place, levels, steps)
+    } else {
+        begin_joined(&stage, at, place, levels, steps)
+    }
+}
+
+/// Adds what comes of the last rows of the level before the one with this number, from the first of them
+/// on, to it. Answers how many rows it had.
+fn continue_at<L: Ledger>(
+    conditions: &Conditions<'_>,
+    number: usize,
+    first: usize,
+    stores: &mut [Buckets],
+    levels: &mut [Level],
+    steps: &mut Steps<L>,
+) -> Result<usize, OutOfMemory>
+    requires some { 0 < number }
+    requires number { number < length conditions.now.joins.now }
+    requires first { first ≤ length (rows_of levels.old number) }
+    requires filed { AreFiled conditions.now.joins.now conditions.now.arrivals.now.came conditions.now.arrivals.now.places levels.old }
+    requires stores { AreStores conditions.now.joins.now conditions.now.arrivals.now.came conditions.now.arrivals.now.places conditions.now.stores.now stores.old }
+    requires below { AllByRecursion (λ p. p < length conditions.now.arrivals.now.came) conditions.now.arrivals.now.places }
+    ensures count { IfOk result (λ count. count ≡ length (rows_of levels.old (number + 1))) }
+    ensures ok { OnOk result (IsGiven (number + 1) (rows_of levels.old) (rows_of levels.new)
+        (grown (joins_of conditions.now.joins.now) conditions.now.arrivals.now.came conditions.now.arrivals.now.places (drop first (rows_of levels.old number)))) }
+    ensures err { OnErr result (IsGivenPart (number + 1) (rows_of levels.old) (rows_of levels.new)
+        (grown (joins_of conditions.now.joins.now) conditions.now.arrivals.now.came conditions.now.arrivals.now.places (drop first (rows_of levels.old number)))) }
+    ensures filed { AreFiled conditions.now.joins.now conditions.now.arrivals.now.came conditions.now.arrivals.now.places levels.new }
+    ensures stores { AreCleaned conditions.now.arrivals.now.places stores.old stores.new }
+{
+    let stage = conditions.stage(number);
+    let store = &mut stores[conditions.stores[number]];
+    go_on(&stage, number, first, store, levels, steps)
 }
