@@ -15,3 +15,4 @@ pub mod SoFarLemmas
 pub mod FiledLemmas
 -- the levels of a rule, by their numbers
 pub mod ConditionLemmas
+pub mod GivenLemmas
