@@ -16,3 +16,4 @@ pub mod FiledLemmas
 -- the levels of a rule, by their numbers
 pub mod ConditionLemmas
 pub mod GivenLemmas
+pub mod WayLemmas

@@ -8,8 +8,9 @@ mod level;
 mod row_view;
 mod rows;
 mod stage;
-mod weave;
+mod weaving;
 
 pub use arrivals::Arrivals;
 pub use level::Level;
 pub use rows::Rows;
+pub use weaving::{Conditions, weave};

@@ -3,12 +3,12 @@
 ghost use Rattle.std.specs.Prelude.{◌≡◌, ℕ, ◌+◌, ◌-◌, ◌<◌, ◌≤◌, [], ◌∷◌, drop, IfOk, OnErr, OnOk, Some, length, map, slice_get, slice_set, true};
 ghost use Rattle.std.specs.List.{AllByRecursion};
 ghost use Rattle.join_tests.specs.declared.joins.Join.{Join};
-ghost use Rattle.match_network.specs.Conditions.{AreCleaned, AreFiled, AreStores, IsBegun, IsGiven, IsGivenPart, joins_of, level_at, rows_of};
+ghost use Rattle.match_network.specs.Conditions.{AreCleaned, AreFiled, AreStores, IsBegun, IsGiven, IsGivenPart, IsStopped, joins_of, level_at, rows_of};
 ghost use Rattle.match_network.specs.Filed.{IsFiled, IsStore, passes_at, LevelRows, only, with_rows};
 ghost use Rattle.match_network.specs.Joining.{IsCleaned, extended};
 ghost use Rattle.match_network.specs.Levels.{HaveCome};
 ghost use Rattle.match_network.specs.SoFar.{IsPart};
-ghost use Rattle.match_network.specs.Woven.{grown, joined, made, with_place};
+ghost use Rattle.match_network.specs.Woven.{grown, joined, made, with_place, woven};
 
 use crate::stage::{Stage, extend, grow, join_place};
 use crate::{Arrivals, Level};
@@ -181,4 +181,35 @@ fn continue_at<L: Ledger>(
     let stage = conditions.stage(number);
     let store = &mut stores[conditions.stores[number]];
     go_on(&stage, number, first, store, levels, steps)
+}
+
+/// Weaves a place in at the condition element with this number, from 0: each level past it gets the rows
+/// that have the place first there. After want of memory there may be rows with the place; once it was
+/// taken out of working memory again, they are dead. It takes memory for those rows alone.
+pub fn weave<L: Ledger>(
+    conditions: &Conditions<'_>,
+    at: usize,
+    place: u32,
+    stores: &mut [Buckets],
+    levels: &mut [Level],
+    steps: &mut Steps<L>,
+) -> Result<(), OutOfMemory>
+    requires at { at < length conditions.now.joins.now }
+    requires passes { (join : Join) → slice_get conditions.now.joins.now at ≡ Some join → passes_at join conditions.now.arrivals.now.came place ≡ true }
+    requires below { AllByRecursion (λ p. p < length conditions.now.arrivals.now.came) conditions.now.arrivals.now.places }
+    requires stores { AreStores conditions.now.joins.now conditions.now.arrivals.now.came conditions.now.arrivals.now.places conditions.now.stores.now stores.old }
+    requires filed { AreFiled conditions.now.joins.now conditions.now.arrivals.now.came conditions.now.arrivals.now.places levels.old }
+    ensures ok { OnOk result ((width : ℕ) → rows_of levels.new width
+        ≡ woven (joins_of conditions.now.joins.now) conditions.now.arrivals.now.came conditions.now.arrivals.now.places place at (rows_of levels.old) width) }
+    ensures err { OnErr result (IsStopped conditions.now.arrivals.now.came place (rows_of levels.old) (rows_of levels.new)) }
+
+    // What is filed stays right, and of the stores only what is dead goes.
+    ensures filed { AreFiled conditions.now.joins.now conditions.now.arrivals.now.came conditions.now.arrivals.now.places levels.new }
+    ensures stores { AreCleaned conditions.now.arrivals.now.places stores.old stores.new }
+{
+    let mut first = begin(conditions, at, place, levels, steps)?;
+    for number in at + 1..conditions.joins.len() {
+        first = continue_at(conditions, number, first, stores, levels, steps)?;
+    }
+    Ok(())
 }

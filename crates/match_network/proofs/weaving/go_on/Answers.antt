@@ -6,7 +6,7 @@ use Rattle.match_network.specs.Filed.{LevelRows, only, with_rows}
 use Rattle.match_network.specs.SoFar.{IsPart}
 use Rattle.match_network.specs.Woven.{grown}
 use Rattle.match_network.proofs.ConditionLemmas.{back_at, back_set, front_at}
-use Rattle.match_network.proofs.weave.go_on.Goals as goal
+use Rattle.match_network.proofs.weaving.go_on.Goals as goal
 
 pub returns-in_err-grow-clause-err : goal.returns-in_err-grow-clause-err
 returns-in_err-grow-clause-err g c =

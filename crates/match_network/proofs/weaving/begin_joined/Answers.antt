@@ -6,7 +6,7 @@ use Rattle.match_network.specs.Filed.{LevelRows, only, with_rows}
 use Rattle.match_network.specs.SoFar.{IsPart}
 use Rattle.match_network.specs.Woven.{joined, with_place}
 use Rattle.match_network.proofs.ConditionLemmas.{back_at, both_set, front_at}
-use Rattle.match_network.proofs.weave.begin_joined.Goals as goal
+use Rattle.match_network.proofs.weaving.begin_joined.Goals as goal
 
 pub returns-in_err-join_place-clause-err : goal.returns-in_err-join_place-clause-err
 returns-in_err-join_place-clause-err g c =

@@ -12,7 +12,7 @@ use Rattle.match_network.specs.Woven.{grown, joined, made, with_place}
 use Rattle.hash_buckets.specs.Buckets.{Buckets}
 use Rattle.std.proofs.lemmas.List.{get_or_default}
 use Rattle.match_network.proofs.GivenLemmas.{AreCleaned-set, by_result, filed_set, get_or-is, given_set, grows, on_err, on_ok, set_part, within-is}
-use Rattle.match_network.proofs.weave.continue_at.Goals as goal
+use Rattle.match_network.proofs.weaving.continue_at.Goals as goal
 
 pub bounds-conditions-number : goal.bounds-conditions-number
 bounds-conditions-number g c =

@@ -13,7 +13,7 @@ use Rattle.match_network.proofs.ComeLemmas.{joined-come}
 use Rattle.match_network.proofs.FiledLemmas.{passed_came}
 use Rattle.match_network.proofs.GivenLemmas.{Begun, begun_alone, begun_joined, begun_part, by_result, joined-widths, made_joined, on_err, on_ok}
 use Rattle.match_network.proofs.SoFarLemmas.{drop_from}
-use Rattle.match_network.proofs.weave.begin.Goals as goal
+use Rattle.match_network.proofs.weaving.begin.Goals as goal
 
 pub begin_alone-requires-clause-place : goal.begin_alone-requires-clause-place
 begin_alone-requires-clause-place g c =
