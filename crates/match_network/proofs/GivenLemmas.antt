@@ -281,7 +281,7 @@ set_part all next came places number levels new rows held lt is widths come leve
         (Each-first (HaveCome came) first part.0 (subst (AllByRecursion (HaveCome came)) part.1.split come)) now)
 
 -- what comes of the last rows of a level
-Each-drop : {X : Type 0} (P : X → Type 0) (n : ℕ) (xs : List X) → AllByRecursion P xs → AllByRecursion P (drop n xs)
+pub Each-drop : {X : Type 0} (P : X → Type 0) (n : ℕ) (xs : List X) → AllByRecursion P xs → AllByRecursion P (drop n xs)
 Each-drop P zero xs each = each
 Each-drop P (suc n) [] each = tt
 Each-drop P (suc n) (x ∷ xs) each = Each-drop P n xs each.1
