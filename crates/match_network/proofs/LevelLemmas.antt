@@ -1,5 +1,5 @@
 -- What weaving leaves of levels.
-use Rattle.std.proofs.Common.{◌≡◌, ℕ, ◌+◌, ◌-◌, ◌<◌, ◌≤◌, ◌==◌, List, [], ◌∷◌, ◌++◌, Bool, true, false, not, cond, ◌&&◌, ◌||◌, eqb, length, map, reverse, zero, suc, refl, ap, sym, ◌∙◌, arith, inl, inr, subst, length-append, Option, Some, None, slice_get, nat_le}
+use Rattle.std.proofs.Common.{◌≡◌, ℕ, ◌+◌, ◌-◌, ◌<◌, ◌≤◌, ◌==◌, List, [], ◌∷◌, ◌++◌, Bool, true, false, not, cond, ◌&&◌, ◌||◌, eqb, length, map, reverse, zero, suc, refl, ap, sym, ◌∙◌, arith, inl, inr, subst, append_assoc, length-append, Option, Some, None, slice_get, nat_le}
 use Rattle.std.specs.List.{AllByRecursion, filter, list_all, list_any}
 use Rattle.std.proofs.lemmas.Bool.{and_parts, and_from, cases_lt, cond-true, cond-false, eqb-true, le-leb, lt-leb, or_parts}
 use Rattle.std.proofs.lemmas.Bool.Decides.{nat_tests}
@@ -8,7 +8,7 @@ use Rattle.rule_base.specs.Memory.{Rises}
 use Rattle.rule_base.specs.Numbers.{has_number, same_numbers}
 use Rattle.rule_base.proofs.EachLemmas.{Each-append, Each-filter, Each-weaker}
 use Rattle.working_memory.proofs.PlaceLemmas.{has_number-filter}
-use Rattle.match_network.specs.Laws.{DeadMayGo, PlacesMayGo, WeavingBegins, WeavingEnds, WeavingGoesOn, WeavingMayStop}
+use Rattle.match_network.specs.Laws.{AddingGoesOn, DeadMayGo, PlacesMayGo, WeavingBegins, WeavingEnds, WeavingGoesOn, WeavingMayStop}
 use Rattle.match_network.specs.Levels.{AreLevels, AreWoven, HaveCome, is_done}
 use Rattle.match_network.specs.Row.{Joins, elements_of, extends, is_first, is_living, is_match, joins_after, some_passes}
 use Rattle.match_network.specs.Times.{times}
@@ -110,9 +110,9 @@ woven_come joins came places place at levels below lt come width =
     ]
 
 pub weaving_goes_on : WeavingGoesOn
-weaving_goes_on joins came places place done at levels rises below lt new held = record {
-  once = woven_once joins came places place done at levels rises new held;
-  have_come = woven_come joins came places place at levels below lt held.have_come;
+weaving_goes_on joins came places place done at levels new rises below lt fresh is held = record {
+  once = λ row living. ap (times (same_numbers row)) (is (length row)) ∙ woven_once joins came places place done at levels rises fresh held row living;
+  have_come = λ width. subst (AllByRecursion (HaveCome came)) (sym (is width)) (woven_come joins came places place at levels below lt held.have_come width);
 }
 
 -- rows of elements that came are without one that comes
@@ -250,16 +250,23 @@ stopped_none came places row below living rows have =
       (λ same. living_without places row (length came) below living (ap (λ r. has_number r (length came)) same ∙ has))) rows have)
 
 pub weaving_may_stop : WeavingMayStop
-weaving_may_stop joins came places e levels more below have held = record {
+weaving_may_stop joins came places e levels new below adds held = record {
   once = λ row living.
-    times-append (same_numbers row) (levels (length row)) (more (length row))
-    ∙ (let none : times (same_numbers row) (levels (length row)) + times (same_numbers row) (more (length row)) ≡ times (same_numbers row) (levels (length row)) = omega (arith, stopped_none came places row below living (more (length row)) (Each-weaker (λ r. HaveCome (came ++ e ∷ []) r × (has_number r (length came) ≡ true)) (λ r. has_number r (length came) ≡ true) (λ r both. both.1) (more (length row)) (have (length row)))) in none)
+    ap (times (same_numbers row)) (adds (length row)).1
+    ∙ times-append (same_numbers row) (levels (length row)) (adds (length row)).0
+    ∙ (let none : times (same_numbers row) (levels (length row)) + times (same_numbers row) (adds (length row)).0 ≡ times (same_numbers row) (levels (length row)) = omega (arith, stopped_none came places row below living (adds (length row)).0 (Each-weaker (λ r. HaveCome (came ++ e ∷ []) r × (has_number r (length came) ≡ true)) (λ r. has_number r (length came) ≡ true) (λ r both. both.1) (adds (length row)).0 (adds (length row)).2)) in none)
     ∙ held.once row living
     ∙ ap one (sym (is_match-come joins came e row (HaveCome-living came places row below living)));
-  have_come = λ width. Each-append (HaveCome (came ++ e ∷ [])) (levels width) (more width)
+  have_come = λ width. subst (AllByRecursion (HaveCome (came ++ e ∷ []))) (sym (adds width).1) (Each-append (HaveCome (came ++ e ∷ [])) (levels width) (adds width).0
     (Each-weaker (HaveCome came) (HaveCome (came ++ e ∷ [])) (λ row come. HaveCome-more came e row come) (levels width) (held.have_come width))
-    (Each-weaker (λ r. HaveCome (came ++ e ∷ []) r × (has_number r (length came) ≡ true)) (HaveCome (came ++ e ∷ [])) (λ r both. both.0) (more width) (have width));
+    (Each-weaker (λ r. HaveCome (came ++ e ∷ []) r × (has_number r (length came) ≡ true)) (HaveCome (came ++ e ∷ [])) (λ r both. both.0) (adds width).0 (adds width).2));
 }
+
+pub adding_goes_on : AddingGoesOn
+adding_goes_on came place old now new first second width =
+    let a = first width in
+    let b = second width in
+    (a.0 ++ b.0, b.1 ∙ ap (λ rows. rows ++ b.0) a.1 ∙ append_assoc (old width) a.0 b.0, Each-append (λ row. HaveCome came row × (has_number row place ≡ true)) a.0 b.0 a.2 b.2)
 
 -- fewer places, and fewer rows
 still_step : (keep has : Bool) {left : Bool} {rest rest_before : Bool} → left ≡ (keep && has) → (rest ≡ true → rest_before ≡ true) → (left && rest) ≡ true → (has && rest_before) ≡ true

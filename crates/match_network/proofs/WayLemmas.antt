@@ -11,9 +11,9 @@ use Rattle.rule_base.proofs.EachLemmas.{Each-always, Each-both, Each-filter, Eac
 use Rattle.hash_buckets.specs.Buckets.{Buckets}
 use Rattle.join_tests.specs.declared.joins.Join.{Join}
 use Rattle.join_tests.specs.Joining.{joins}
-use Rattle.match_network.specs.Conditions.{AreCleaned, AreFiled, AreStores, IsGiven, IsGivenPart, IsStopped, entries_at, joins_of, rows_of}
+use Rattle.match_network.specs.Conditions.{AreCleaned, AreFiled, AreStores, IsGiven, IsGivenPart, entries_at, joins_of, rows_of}
 use Rattle.match_network.specs.Filed.{LevelRows}
-use Rattle.match_network.specs.Levels.{HaveCome}
+use Rattle.match_network.specs.Levels.{HaveCome, OnlyAdds}
 use Rattle.match_network.specs.Row.{Joins, elements_of, extends, some_passes}
 use Rattle.match_network.specs.Woven.{Levels, grown, joined, made, offered, with_place, woven}
 use Rattle.match_network.proofs.ComeLemmas.{grown-come, made-come, slice_get-past}
@@ -157,7 +157,7 @@ record More (came : List Element) (place : ℕ) (before : List (List ℕ)) (afte
 no_more : (came : List Element) (place : ℕ) (before after : List (List ℕ)) → after ≡ before → More came place before after
 no_more came place before after is = record { more = []; is = is ∙ sym (append-nil before); each = tt }
 
-pub stopped_at_once : (js : Joins) (came : List Element) (places : List ℕ) (place at : ℕ) (old new : Levels) → place < length came → AllByRecursion (λ p. p < length came) places → AllByRecursion (HaveCome came) (old at) → IsGivenPart (at + 1) old new (made js came places place (old at) 0) → IsStopped came place old new
+pub stopped_at_once : (js : Joins) (came : List Element) (places : List ℕ) (place at : ℕ) (old new : Levels) → place < length came → AllByRecursion (λ p. p < length came) places → AllByRecursion (HaveCome came) (old at) → IsGivenPart (at + 1) old new (made js came places place (old at) 0) → OnlyAdds came place old new
 stopped_at_once js came places place at old new lt below come part width =
     let found : More came place (old width) (new width) = elim (cases_eq width (at + 1)) [
       | inl same ↦
@@ -180,7 +180,7 @@ so_far_more js came places place at old now number first lt below come way width
   | inr before ↦ no_more came place (old width) (now width) (way.done width le ∙ woven_before js came places place at old width before)
 ]
 
-pub stopped_later : (js : Joins) (came : List Element) (places : List ℕ) (place at : ℕ) (old now new : Levels) (number first : ℕ) → place < length came → AllByRecursion (λ p. p < length came) places → AllByRecursion (HaveCome came) (old at) → IsOnWay js came places place at old now number first → IsGivenPart (number + 1) now new (grown js came places (drop first (now number))) → IsStopped came place old new
+pub stopped_later : (js : Joins) (came : List Element) (places : List ℕ) (place at : ℕ) (old now new : Levels) (number first : ℕ) → place < length came → AllByRecursion (λ p. p < length came) places → AllByRecursion (HaveCome came) (old at) → IsOnWay js came places place at old now number first → IsGivenPart (number + 1) now new (grown js came places (drop first (now number))) → OnlyAdds came place old new
 stopped_later js came places place at old now new number first lt below come way part width =
     let last_have : AllByRecursion (λ row. has_number row place ≡ true) (drop first (now number)) = subst (AllByRecursion (λ row. has_number row place ≡ true)) (sym way.last) (made-has js came places place (old at) (number - (at + 1))) in
     let last_come : AllByRecursion (HaveCome came) (drop first (now number)) = subst (AllByRecursion (HaveCome came)) (sym way.last) (made-come js came places place (old at) below lt come (number - (at + 1))) in
@@ -200,6 +200,14 @@ stopped_later js came places place at old now new number first lt below come way
             | inl past ↦ no_more came place (old width) (new width) (here ∙ way.left width past)
             | inr within ↦ subst (More came place (old width)) (sym here) (so_far_more js came places place at old now number first lt below come way width within)
           ])
+    ] in
+    (found.more, found.is, found.each)
+
+pub way_adds : (all : List Join) (came : List Element) (places : List ℕ) (place at : ℕ) (old now : Levels) (number first : ℕ) → place < length came → AllByRecursion (λ p. p < length came) places → AllByRecursion (HaveCome came) (old at) → IsOnWay (joins_of all) came places place at old now number first → OnlyAdds came place old now
+way_adds all came places place at old now number first lt below come way width =
+    let found : More came place (old width) (now width) = elim (cases_lt number width) [
+      | inl past ↦ no_more came place (old width) (now width) (way.left width past)
+      | inr within ↦ so_far_more (joins_of all) came places place at old now number first lt below come way width within
     ] in
     (found.more, found.is, found.each)
 

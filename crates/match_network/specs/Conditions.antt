@@ -3,7 +3,6 @@ use Rattle.std.specs.Prelude.{◌≡◌, ℕ, ◌+◌, ◌-◌, ◌<◌, ◌==�
 use Rattle.std.specs.List.{AllByRecursion}
 use Rattle.std.specs.Option.{option_map_or}
 use Rattle.rule_base.specs.declared.element.Element.{Element}
-use Rattle.rule_base.specs.Numbers.{has_number}
 use Rattle.join_tests.specs.declared.joins.Join.{Join}
 use Rattle.join_tests.specs.Joining.{joins}
 use Rattle.hash_buckets.specs.Buckets.{Buckets}
@@ -68,8 +67,3 @@ pub record IsGiven (width : ℕ) (old : Levels) (new : Levels) (rows : List (Lis
 -- the rows of one width have become more by the first of these
 abbrev pub IsGivenPart : ℕ → Levels → Levels → List (List ℕ) → Type 0
 IsGivenPart width old new rows = (some : List (List ℕ)) × (rest : List (List ℕ)) × (rows ≡ some ++ rest) × IsGiven width old new some
-
--- of each width there may be more rows, all with this place
-abbrev pub IsStopped : List Element → ℕ → Levels → Levels → Type 0
-IsStopped came place old new =
-    (width : ℕ) → (more : List (List ℕ)) × (new width ≡ old width ++ more) × AllByRecursion (λ row. HaveCome came row × (has_number row place ≡ true)) more

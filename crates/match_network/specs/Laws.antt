@@ -3,9 +3,8 @@ use Rattle.std.specs.Prelude.{◌≡◌, ℕ, ◌<◌, ◌==◌, List, [], ◌�
 use Rattle.std.specs.List.{AllByRecursion, list_any}
 use Rattle.rule_base.specs.declared.element.Element.{Element}
 use Rattle.rule_base.specs.Memory.{Rises}
-use Rattle.rule_base.specs.Numbers.{has_number}
 use Rattle.match_network.specs.Row.{Joins, is_living}
-use Rattle.match_network.specs.Levels.{AreLevels, AreWoven, HaveCome}
+use Rattle.match_network.specs.Levels.{AreLevels, AreWoven, OnlyAdds}
 use Rattle.match_network.specs.Woven.{Levels, woven}
 
 -- an element comes: with nothing woven yet, the levels of the memory without it are on the way to the memory with it
@@ -19,11 +18,12 @@ WeavingBegins =
 -- one weave more, at a condition element that had none
 abbrev pub WeavingGoesOn : Type 0
 WeavingGoesOn =
-    (joins : Joins) (came : List Element) (places : List ℕ) (place : ℕ) (done : List ℕ) (at : ℕ) (levels : Levels) →
+    (joins : Joins) (came : List Element) (places : List ℕ) (place : ℕ) (done : List ℕ) (at : ℕ) (levels new : Levels) →
     Rises places → AllByRecursion (λ p. p < length came) places → place < length came →
     list_any (λ other. other == at) done ≡ false →
+    ((width : ℕ) → new width ≡ woven joins came places place at levels width) →
     AreWoven joins came places place done levels →
-    AreWoven joins came places place (at ∷ done) (woven joins came places place at levels)
+    AreWoven joins came places place (at ∷ done) new
 
 -- once the place was woven in wherever its element may join, the levels are right for the memory with it
 abbrev pub WeavingEnds : Type 0
@@ -37,11 +37,17 @@ WeavingEnds =
 -- where weaving stopped midway and the place was taken out again, the levels are right for the memory as it was
 abbrev pub WeavingMayStop : Type 0
 WeavingMayStop =
-    (joins : Joins) (came : List Element) (places : List ℕ) (e : Element) (levels more : Levels) →
+    (joins : Joins) (came : List Element) (places : List ℕ) (e : Element) (levels new : Levels) →
     AllByRecursion (λ p. p < length came) places →
-    ((width : ℕ) → AllByRecursion (λ row. HaveCome (came ++ e ∷ []) row × (has_number row (length came) ≡ true)) (more width)) →
+    OnlyAdds (came ++ e ∷ []) (length came) levels new →
     AreLevels joins came places levels →
-    AreLevels joins (came ++ e ∷ []) places (λ width. levels width ++ more width)
+    AreLevels joins (came ++ e ∷ []) places new
+
+-- weaves one after another add only rows with the place
+abbrev pub AddingGoesOn : Type 0
+AddingGoesOn =
+    (came : List Element) (place : ℕ) (old now new : Levels) →
+    OnlyAdds came place old now → OnlyAdds came place now new → OnlyAdds came place old new
 
 -- places that go change nothing in the levels
 abbrev pub PlacesMayGo : Type 0

@@ -1,5 +1,5 @@
 -- What levels hold: at least the partial matches whose elements are in working memory, each once.
-use Rattle.std.specs.Prelude.{◌≡◌, ℕ, ◌<◌, ◌==◌, List, Bool, true, false, not, ◌&&◌, ◌||◌, if◌then◌else◌, length}
+use Rattle.std.specs.Prelude.{◌≡◌, ℕ, ◌<◌, ◌==◌, List, Bool, true, false, not, ◌&&◌, ◌||◌, ◌++◌, if◌then◌else◌, length}
 use Rattle.std.specs.List.{AllByRecursion, list_any}
 use Rattle.rule_base.specs.declared.element.Element.{Element}
 use Rattle.rule_base.specs.Numbers.{has_number, same_numbers}
@@ -26,3 +26,8 @@ is_done place done row = not (has_number row place) || list_any (λ at. is_first
 pub record AreWoven (joins : Joins) (came : List Element) (places : List ℕ) (place : ℕ) (done : List ℕ) (levels : Levels) : Type 0 where
   pub once : (row : List ℕ) → is_living places row ≡ true → times (same_numbers row) (levels (length row)) ≡ (if is_match joins came row && is_done place done row then 1 else 0)
   pub have_come : (width : ℕ) → AllByRecursion (HaveCome came) (levels width)
+
+-- each level keeps its rows, and gets only rows with this place, of elements that came
+abbrev pub OnlyAdds : List Element → ℕ → Levels → Levels → Type 0
+OnlyAdds came place old new =
+    (width : ℕ) → (more : List (List ℕ)) × (new width ≡ old width ++ more) × AllByRecursion (λ row. HaveCome came row × (has_number row place ≡ true)) more

@@ -1,6 +1,6 @@
 //! Laws of what the levels hold. Each function here does nothing: its contract is the law.
 
-ghost use Rattle.match_network.specs.Laws.{DeadMayGo, PlacesMayGo, WeavingBegins, WeavingEnds, WeavingGoesOn, WeavingMayStop};
+ghost use Rattle.match_network.specs.Laws.{AddingGoesOn, DeadMayGo, PlacesMayGo, WeavingBegins, WeavingEnds, WeavingGoesOn, WeavingMayStop};
 
 /// Weaving a place in at each condition element where its element may join, in any order and once at
 /// each, makes levels of the memory with it from those of the memory without it.
@@ -9,6 +9,7 @@ pub fn weaves_are_levels()
     ensures goes_on { WeavingGoesOn }
     ensures ends { WeavingEnds }
     ensures may_stop { WeavingMayStop }
+    ensures adding { AddingGoesOn }
 {}
 
 /// What levels hold may be more than what lives.

@@ -3,10 +3,10 @@
 ghost use Rattle.std.specs.Prelude.{◌≡◌, ℕ, ◌+◌, ◌-◌, ◌<◌, ◌≤◌, [], ◌∷◌, drop, IfOk, OnErr, OnOk, Some, length, map, slice_get, slice_set, true};
 ghost use Rattle.std.specs.List.{AllByRecursion};
 ghost use Rattle.join_tests.specs.declared.joins.Join.{Join};
-ghost use Rattle.match_network.specs.Conditions.{AreCleaned, AreFiled, AreStores, IsBegun, IsGiven, IsGivenPart, IsStopped, joins_of, level_at, rows_of};
+ghost use Rattle.match_network.specs.Conditions.{AreCleaned, AreFiled, AreStores, IsBegun, IsGiven, IsGivenPart, joins_of, level_at, rows_of};
 ghost use Rattle.match_network.specs.Filed.{IsFiled, IsStore, passes_at, LevelRows, only, with_rows};
 ghost use Rattle.match_network.specs.Joining.{IsCleaned, extended};
-ghost use Rattle.match_network.specs.Levels.{HaveCome};
+ghost use Rattle.match_network.specs.Levels.{HaveCome, OnlyAdds};
 ghost use Rattle.match_network.specs.SoFar.{IsPart};
 ghost use Rattle.match_network.specs.Woven.{grown, joined, made, with_place, woven};
 
@@ -201,9 +201,10 @@ pub fn weave<L: Ledger>(
     requires filed { AreFiled conditions.now.joins.now conditions.now.arrivals.now.came conditions.now.arrivals.now.places levels.old }
     ensures ok { OnOk result ((width : ℕ) → rows_of levels.new width
         ≡ woven (joins_of conditions.now.joins.now) conditions.now.arrivals.now.came conditions.now.arrivals.now.places place at (rows_of levels.old) width) }
-    ensures err { OnErr result (IsStopped conditions.now.arrivals.now.came place (rows_of levels.old) (rows_of levels.new)) }
 
-    // What is filed stays right, and of the stores only what is dead goes.
+    // Even after want of memory there are only more rows with the place, what is filed is right, and of
+    // the stores only what is dead has gone.
+    ensures adds { OnlyAdds conditions.now.arrivals.now.came place (rows_of levels.old) (rows_of levels.new) }
     ensures filed { AreFiled conditions.now.joins.now conditions.now.arrivals.now.came conditions.now.arrivals.now.places levels.new }
     ensures stores { AreCleaned conditions.now.arrivals.now.places stores.old stores.new }
 {

@@ -1,5 +1,5 @@
 -- The laws are lemmas about the definitions.
-use Rattle.match_network.proofs.LevelLemmas.{weaving_begins, weaving_ends, weaving_goes_on, weaving_may_stop}
+use Rattle.match_network.proofs.LevelLemmas.{adding_goes_on, weaving_begins, weaving_ends, weaving_goes_on, weaving_may_stop}
 use Rattle.match_network.proofs.laws.weaves_are_levels.Goals as goal
 
 pub returns-clause-begins : goal.returns-clause-begins
@@ -13,3 +13,6 @@ returns-clause-ends c = weaving_ends
 
 pub returns-clause-may_stop : goal.returns-clause-may_stop
 returns-clause-may_stop c = weaving_may_stop
+
+pub returns-clause-adding : goal.returns-clause-adding
+returns-clause-adding c = adding_goes_on

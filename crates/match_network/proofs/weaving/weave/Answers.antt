@@ -1,15 +1,14 @@
 -- From level to level.
 use Rattle.std.proofs.Common.{◌≡◌, ℕ, ◌≤◌, ◌<◌, List, arith, length}
-use Rattle.std.proofs.lemmas.Result.{err_from_is_err_and}
 use Rattle.match_network.specs.Conditions.{entries_at, joins_of, rows_of}
 use Rattle.match_network.proofs.ComeLemmas.{some_at}
 use Rattle.match_network.proofs.FiledLemmas.{IsCleaned-none, passed_came}
 use Rattle.match_network.proofs.GivenLemmas.{rows_come, rows_widths}
-use Rattle.match_network.proofs.WayLemmas.{AreCleaned-more, AreStores-cleaned, stopped_at_once, stopped_later, way_begins, way_ends, way_goes_on}
+use Rattle.match_network.proofs.WayLemmas.{AreCleaned-more, AreStores-cleaned, stopped_at_once, stopped_later, way_adds, way_begins, way_ends, way_goes_on}
 use Rattle.match_network.proofs.weaving.weave.Goals as goal
 
-pub returns-in_err-first-clause-err : goal.returns-in_err-first-clause-err
-returns-in_err-first-clause-err g c =
+pub returns-in_err-first-clause-adds : goal.returns-in_err-first-clause-adds
+returns-in_err-first-clause-adds g c =
     let conditions = c.args.conditions.now in
     let all = conditions.joins.now in
     let came = conditions.arrivals.now.came in
@@ -18,9 +17,7 @@ returns-in_err-first-clause-err g c =
     let this = some_at all c.args.at c.requires.at in
     let lt = passed_came this.item came c.args.place (c.requires.passes this.item this.is) in
     let come = rows_come all came places c.args.at levels c.requires.filed (let le : c.args.at ≤ length all = omega (arith, c.requires.at) in le) in
-    let stopped = stopped_at_once (joins_of all) came places c.args.place c.args.at (rows_of levels) (rows_of c.begin.new.levels) lt c.requires.below come c.in_err-first.ensures.err in
-    let out = err_from_is_err_and c.from_residual.result c.from_residual.ensures.1 in
-    rw out.1 stopped
+    stopped_at_once (joins_of all) came places c.args.place c.args.at (rows_of levels) (rows_of c.begin.new.levels) lt c.requires.below come c.in_err-first.ensures.err
 
 pub returns-in_err-first-clause-stores : goal.returns-in_err-first-clause-stores
 returns-in_err-first-clause-stores g c number = IsCleaned-none c.args.conditions.now.arrivals.now.places (entries_at c.args.stores.now number)
@@ -46,8 +43,8 @@ continue_at-requires-clause-stores g c =
     let conditions = c.args.conditions.now in
     AreStores-cleaned conditions.joins.now conditions.arrivals.now.came conditions.arrivals.now.places conditions.stores.now c.args.stores.now c.loop-number.stores c.requires.stores c.loop-number.invariant.cleaned c.loop-number.auto.stores
 
-pub returns-in_err-first-2-clause-err : goal.returns-in_err-first-2-clause-err
-returns-in_err-first-2-clause-err g c =
+pub returns-in_err-first-2-clause-adds : goal.returns-in_err-first-2-clause-adds
+returns-in_err-first-2-clause-adds g c =
     let conditions = c.args.conditions.now in
     let all = conditions.joins.now in
     let came = conditions.arrivals.now.came in
@@ -57,9 +54,7 @@ returns-in_err-first-2-clause-err g c =
     let lt = passed_came this.item came c.args.place (c.requires.passes this.item this.is) in
     let come = rows_come all came places c.args.at levels c.requires.filed (let le : c.args.at ≤ length all = omega (arith, c.requires.at) in le) in
     let l = c.loop-number in
-    let stopped = stopped_later (joins_of all) came places c.args.place c.args.at (rows_of levels) (rows_of l.levels) (rows_of c.continue_at.new.levels) l.number l.first lt c.requires.below come l.invariant.way c.in_err-first-2.ensures.err in
-    let out = err_from_is_err_and c.from_residual-in_err-first-2.result c.from_residual-in_err-first-2.ensures.1 in
-    rw out.1 stopped
+    stopped_later (joins_of all) came places c.args.place c.args.at (rows_of levels) (rows_of l.levels) (rows_of c.continue_at.new.levels) l.number l.first lt c.requires.below come l.invariant.way c.in_err-first-2.ensures.err
 
 pub returns-in_err-first-2-clause-stores : goal.returns-in_err-first-2-clause-stores
 returns-in_err-first-2-clause-stores g c =
@@ -96,3 +91,16 @@ returns-clause-ok g c =
     way_ends all came places c.args.place c.args.at (rows_of levels) (rows_of l.levels) l.number l.first
     (rows_widths all came places c.args.at levels c.requires.filed (let le : c.args.at ≤ length all = omega (arith, c.requires.at) in le))
     l.invariant.way c.requires.at (let past : length all ≤ l.number = omega (arith, c.loop-number-test.false) in past)
+
+pub returns-clause-adds : goal.returns-clause-adds
+returns-clause-adds g c =
+    let conditions = c.args.conditions.now in
+    let all = conditions.joins.now in
+    let came = conditions.arrivals.now.came in
+    let places = conditions.arrivals.now.places in
+    let levels = c.args.levels.now in
+    let this = some_at all c.args.at c.requires.at in
+    let lt = passed_came this.item came c.args.place (c.requires.passes this.item this.is) in
+    let come = rows_come all came places c.args.at levels c.requires.filed (let le : c.args.at ≤ length all = omega (arith, c.requires.at) in le) in
+    let l = c.loop-number in
+    way_adds all came places c.args.place c.args.at (rows_of levels) (rows_of l.levels) l.number l.first lt c.requires.below come l.invariant.way
