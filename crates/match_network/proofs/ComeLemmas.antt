@@ -16,7 +16,7 @@ Each-reverse P [] of_xs = tt
 Each-reverse P (x ∷ xs) of_xs = subst (AllByRecursion P) (sym (reverse-append (x ∷ []) xs)) (Each-append P (reverse xs) (x ∷ []) (Each-reverse P xs of_xs.1) (of_xs.0, tt))
 
 -- an element of before stays at its place
-slice_get-more : {X : Type 0} (xs : List X) (i : ℕ) (more : List X) → i < length xs → slice_get (xs ++ more) i ≡ slice_get xs i
+pub slice_get-more : {X : Type 0} (xs : List X) (i : ℕ) (more : List X) → i < length xs → slice_get (xs ++ more) i ≡ slice_get xs i
 slice_get-more [] i more lt = absurd (omega (arith, lt))
 slice_get-more (x ∷ xs) zero more lt = refl
 slice_get-more (x ∷ xs) (suc i) more lt = slice_get-more xs i more (omega (arith, lt))

@@ -31,7 +31,7 @@ filed_rows-numbered : (join : Join) (came : List Element) (number : ℕ) (rows :
 filed_rows-numbered join came number [] most le = tt
 filed_rows-numbered join came number (row ∷ rows) most le = (omega (arith, le), filed_rows-numbered join came (number + 1) rows most (omega (arith, le)))
 
-filed-numbered : (next : List Join) (came : List Element) (number : ℕ) (rows : List (List ℕ)) (most : ℕ) → number + length rows ≤ most → AllByRecursion (λ (e : ℕ × ℕ). e.1 < most) (filed next came number rows)
+pub filed-numbered : (next : List Join) (came : List Element) (number : ℕ) (rows : List (List ℕ)) (most : ℕ) → number + length rows ≤ most → AllByRecursion (λ (e : ℕ × ℕ). e.1 < most) (filed next came number rows)
 filed-numbered [] came number rows most le = tt
 filed-numbered (join ∷ rest) came number rows most le = filed_rows-numbered join came number rows most le
 

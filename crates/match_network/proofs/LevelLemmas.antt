@@ -278,7 +278,7 @@ still_step true true {left = left} {rest = rest} is before living = before (seco
 still_step true false is before living = absurd (let wrong : ⊥ = cc in wrong)
 still_step false has is before living = absurd (let wrong : ⊥ = cc in wrong)
 
-lives_in_more : (keep : ℕ → Bool) (places row : List ℕ) → is_living (filter keep places) row ≡ true → is_living places row ≡ true
+pub lives_in_more : (keep : ℕ → Bool) (places row : List ℕ) → is_living (filter keep places) row ≡ true → is_living places row ≡ true
 lives_in_more keep places [] living = refl
 lives_in_more keep places (next ∷ row) living =
     still_step (keep next) (has_number places next) (has_number-filter keep places next) (lives_in_more keep places row) living

@@ -17,3 +17,5 @@ pub mod FiledLemmas
 pub mod ConditionLemmas
 pub mod GivenLemmas
 pub mod WayLemmas
+-- what is filed as elements come and go
+pub mod FilingLemmas

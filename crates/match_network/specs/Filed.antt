@@ -63,7 +63,11 @@ pub record IsFiled (next : List Join) (came : List Element) (places : List ℕ) 
 abbrev pub passes_at : Join → List Element → ℕ → Bool
 passes_at join came place = some_passes (passes join.pattern) (slice_get came place)
 
+-- of these places, those whose elements pass, under the hashes of what they bring to the join's key
+abbrev pub store_entries : Join → List Element → List ℕ → List (ℕ × ℕ)
+store_entries join came places = map (λ p. (hash_at join came p, p)) (filter (passes_at join came) places)
+
 -- of the elements that live, just those that pass are filed, each under its hash and in order; and what is filed came
 pub record IsStore (join : Join) (came : List Element) (places : List ℕ) (entries : List (ℕ × ℕ)) : Type 0 where
-  pub living : living_entries (has_number places) entries ≡ map (λ p. (hash_at join came p, p)) (filter (passes_at join came) places)
+  pub living : living_entries (has_number places) entries ≡ store_entries join came places
   pub have_come : AllByRecursion (λ (e : ℕ × ℕ). e.1 < length came) entries

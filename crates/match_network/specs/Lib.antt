@@ -17,3 +17,4 @@ pub mod SoFar
 pub mod Joining
 -- the levels of a rule
 pub mod Conditions
+pub mod FilingLaws

@@ -4,6 +4,7 @@
 
 pub mod laws;
 mod arrivals;
+mod filing;
 mod level;
 mod row_view;
 mod rows;
@@ -11,6 +12,7 @@ mod stage;
 mod weaving;
 
 pub use arrivals::Arrivals;
+pub use filing::file_element;
 pub use level::Level;
 pub use rows::Rows;
 pub use weaving::{Conditions, weave};
