@@ -74,16 +74,16 @@ joined-come joins came places place rows lt come =
     let keep : List ℕ → Bool = λ row. (is_living places row && not (has_number row place)) && extends joins came row place in
     Each-map (HaveCome came) (with_place place) (joined joins came places place rows)
     (Each-weaker (HaveCome came) (λ row. HaveCome came (row ++ place ∷ [])) (λ row of_row. HaveCome-push came row place of_row lt) (joined joins came places place rows)
-      (Each-reverse (HaveCome came) (filter keep rows) (Each-filter (HaveCome came) keep rows come)))
+    (Each-reverse (HaveCome came) (filter keep rows) (Each-filter (HaveCome came) keep rows come)))
 
 pub grown-come : (joins : Joins) (came : List Element) (places : List ℕ) (rows : List (List ℕ)) → AllByRecursion (λ p. p < length came) places → AllByRecursion (HaveCome came) rows → AllByRecursion (HaveCome came) (grown joins came places rows)
 grown-come joins came places rows below come =
     Each-flat_map (HaveCome came) (λ row. map (λ p. with_place p row) (offered joins came places row)) rows
     (Each-weaker (HaveCome came) (λ row. AllByRecursion (HaveCome came) (map (λ p. with_place p row) (offered joins came places row)))
-      (λ row of_row. Each-map (HaveCome came) (λ p. with_place p row) (offered joins came places row)
-        (Each-weaker (λ p. p < length came) (λ p. HaveCome came (row ++ p ∷ [])) (λ p of_p. HaveCome-push came row p of_row of_p) (offered joins came places row)
-          (Each-reverse (λ p. p < length came) (filter (extends joins came row) places) (Each-filter (λ p. p < length came) (extends joins came row) places below))))
-      rows come)
+    (λ row of_row. Each-map (HaveCome came) (λ p. with_place p row) (offered joins came places row)
+    (Each-weaker (λ p. p < length came) (λ p. HaveCome came (row ++ p ∷ [])) (λ p of_p. HaveCome-push came row p of_row of_p) (offered joins came places row)
+    (Each-reverse (λ p. p < length came) (filter (extends joins came row) places) (Each-filter (λ p. p < length came) (extends joins came row) places below))))
+    rows come)
 
 pub made-come : (joins : Joins) (came : List Element) (places : List ℕ) (place : ℕ) (rows : List (List ℕ)) → AllByRecursion (λ p. p < length came) places → place < length came → AllByRecursion (HaveCome came) rows → (further : ℕ) → AllByRecursion (HaveCome came) (made joins came places place rows further)
 made-come joins came places place rows below lt come zero = joined-come joins came places place rows lt come

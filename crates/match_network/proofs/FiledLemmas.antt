@@ -53,7 +53,7 @@ cleaned_bucket lives entries hash =
     let both : ℕ × ℕ → Bool = λ e. under e && alive e in
     ap (map (λ (e : ℕ × ℕ). e.1))
     (sym (filter-both under (stays hash lives) both entries (Each-always (λ e. both e ≡ (under e && stays hash lives e)) (λ e. under_step (under e) (alive e)) entries))
-      ∙ filter-both under alive both entries (Each-always (λ e. both e ≡ (under e && alive e)) (λ e. refl) entries))
+    ∙ filter-both under alive both entries (Each-always (λ e. both e ≡ (under e && alive e)) (λ e. refl) entries))
 
 -- the rows of a bucket
 drop_next : {X : Type 0} (n : ℕ) (xs : List X) (y : X) (ys : List X) → drop n xs ≡ y ∷ ys → (slice_get xs n ≡ Some y) × (drop (n + 1) xs ≡ ys)
@@ -152,9 +152,9 @@ taken_found join next came places place level held passed =
     ap (map (row_at rows)) (cleaned_bucket lives level.entries hash) ∙ ap (λ es. map (row_at rows) (numbers_of es hash)) held.living ∙ found_rows join came places rows hash 0 rows refl in
     ap (map (with_place place))
     (ap (filter (takes join came place)) (map-reverse (row_at rows) (numbers_of (filter (stays hash lives) level.entries) hash))
-      ∙ filter-reverse (takes join came place) (map (row_at rows) (numbers_of (filter (stays hash lives) level.entries) hash))
-      ∙ ap (λ rs. reverse (filter (takes join came place) rs)) found
-      ∙ ap reverse (sym (filter-both (takes join came place) mid keep rows (Each-always (λ row. keep row ≡ (takes join came place row && mid row)) (λ row. takes_found join came places place row (slice_get came place) passed) rows))))
+    ∙ filter-reverse (takes join came place) (map (row_at rows) (numbers_of (filter (stays hash lives) level.entries) hash))
+    ∙ ap (λ rs. reverse (filter (takes join came place) rs)) found
+    ∙ ap reverse (sym (filter-both (takes join came place) mid keep rows (Each-always (λ row. keep row ≡ (takes join came place row && mid row)) (λ row. takes_found join came places place row (slice_get came place) passed) rows))))
 
 -- the places of a bucket
 place_step : (hit : Bool) (place has : ℕ) (rest : List (ℕ × ℕ)) (hash : ℕ) → (has == hash) ≡ hit → numbers_of ((has, place) ∷ rest) hash ≡ cond hit (place ∷ numbers_of rest hash) (numbers_of rest hash)
@@ -207,8 +207,8 @@ extended_found join came places row entries held =
     ∙ sym (filter-both hit (passes_at join came) mid places (Each-always (λ p. mid p ≡ (hit p && passes_at join came p)) (λ p. refl) places)) in
     ap (map (λ p. with_place p row))
     (filter-reverse (agrees_at join came row) (numbers_of (filter (stays hash (has_number places)) entries) hash)
-      ∙ ap (λ ps. reverse (filter (agrees_at join came row) ps)) found
-      ∙ ap reverse (sym (filter-both (agrees_at join came row) mid goes places (Each-always (λ p. goes p ≡ (agrees_at join came row p && mid p)) (λ p. offered_found join came row (slice_get came p)) places))))
+    ∙ ap (λ ps. reverse (filter (agrees_at join came row) ps)) found
+    ∙ ap reverse (sym (filter-both (agrees_at join came row) mid goes places (Each-always (λ p. goes p ≡ (agrees_at join came row p && mid p)) (λ p. offered_found join came row (slice_get came p)) places))))
 
 -- what was cleaned still holds all that lives
 alive_step : (under alive : Bool) → alive ≡ (alive && (not under || alive))
@@ -228,7 +228,7 @@ IsFiled-cleaned next came places old new hash held rows is =
     record {
       living = subst (λ rs. living_entries (row_lives places rs) new.entries ≡ living_entries (row_lives places rs) (filed next came 0 rs)) (sym rows) kept;
       numbered = subst (λ rs. AllByRecursion (λ (e : ℕ × ℕ). e.1 < length rs) new.entries) (sym rows)
-        (subst (λ es. AllByRecursion (λ (e : ℕ × ℕ). e.1 < length old.rows) es) (sym is) (Each-filter (λ (e : ℕ × ℕ). e.1 < length old.rows) (stays hash lives) old.entries held.numbered));
+          (subst (λ es. AllByRecursion (λ (e : ℕ × ℕ). e.1 < length old.rows) es) (sym is) (Each-filter (λ (e : ℕ × ℕ). e.1 < length old.rows) (stays hash lives) old.entries held.numbered));
     }
 
 pub IsCleaned-stays : (places : List ℕ) (old new : List (ℕ × ℕ)) (hash : ℕ) → new ≡ filter (stays hash (has_number places)) old → IsCleaned places old new
@@ -265,8 +265,8 @@ IsStore-cleaned join came places old new cleaned held =
     let alive : ℕ × ℕ → Bool = λ e. has_number places e.1 in
     record {
       living = ap (living_entries (has_number places)) cleaned.is
-        ∙ sym (filter-both alive cleaned.keep alive old (Each-always (λ e. alive e ≡ (alive e && cleaned.keep e)) (λ e. kept_step (alive e) (cleaned.keep e) (cleaned.living e)) old))
-        ∙ held.living;
+          ∙ sym (filter-both alive cleaned.keep alive old (Each-always (λ e. alive e ≡ (alive e && cleaned.keep e)) (λ e. kept_step (alive e) (cleaned.keep e) (cleaned.living e)) old))
+          ∙ held.living;
       have_come = subst (λ es. AllByRecursion (λ (e : ℕ × ℕ). e.1 < length came) es) (sym cleaned.is) (Each-filter (λ (e : ℕ × ℕ). e.1 < length came) cleaned.keep old held.have_come);
     }
 

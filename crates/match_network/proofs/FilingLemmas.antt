@@ -56,13 +56,13 @@ rows_live : (came : List Element) (places : List ℕ) (rows : List (List ℕ)) (
 rows_live came places rows entries come numbered =
     filter-agree (λ (e : ℕ × ℕ). row_lives (places ++ length came ∷ []) rows e.1) (λ (e : ℕ × ℕ). row_lives places rows e.1) entries
     (Each-weaker (λ (e : ℕ × ℕ). e.1 < length rows) (λ (e : ℕ × ℕ). row_lives (places ++ length came ∷ []) rows e.1 ≡ row_lives places rows e.1)
-      (λ e lt. lives_before came places (row_at rows e.1) (Each-get_or (HaveCome came) rows e.1 [] come lt)) entries numbered)
+    (λ e lt. lives_before came places (row_at rows e.1) (Each-get_or (HaveCome came) rows e.1 [] come lt)) entries numbered)
 
 IsFiled-come : (next : List Join) (came : List Element) (places : List ℕ) (e : Element) (level : LevelRows) → AllByRecursion (HaveCome came) level.rows → IsFiled next came places level → IsFiled next (came ++ e ∷ []) (places ++ length came ∷ []) level
 IsFiled-come next came places e level come held = record {
   living = rows_live came places level.rows level.entries come held.numbered ∙ held.living
-    ∙ sym (rows_live came places level.rows (filed next came 0 level.rows) come (filed-numbered next came 0 level.rows (length level.rows) (omega arith)))
-    ∙ ap (living_entries (row_lives (places ++ length came ∷ []) level.rows)) (sym (filed-come next came e 0 level.rows come));
+      ∙ sym (rows_live came places level.rows (filed next came 0 level.rows) come (filed-numbered next came 0 level.rows (length level.rows) (omega arith)))
+      ∙ ap (living_entries (row_lives (places ++ length came ∷ []) level.rows)) (sym (filed-come next came e 0 level.rows come));
   numbered = held.numbered;
 }
 
@@ -70,13 +70,13 @@ pub levels_meet_arrivals : LevelsMeetArrivals
 levels_meet_arrivals all came places e levels below held = record {
   count = held.count;
   each = λ number lt.
-    let old = held.each number lt in
-    record {
-      width = old.width;
-      widths = old.widths;
-      have_come = Each-weaker (HaveCome came) (HaveCome (came ++ e ∷ [])) (λ row come. HaveCome-more came e row come) (level_at levels number).rows old.have_come;
-      filed = IsFiled-come (drop (number + 1) all) came places e (level_at levels number) old.have_come old.filed;
-    };
+      let old = held.each number lt in
+      record {
+        width = old.width;
+        widths = old.widths;
+        have_come = Each-weaker (HaveCome came) (HaveCome (came ++ e ∷ [])) (λ row come. HaveCome-more came e row come) (level_at levels number).rows old.have_come;
+        filed = IsFiled-come (drop (number + 1) all) came places e (level_at levels number) old.have_come old.filed;
+      };
 }
 
 -- what lives of less lived
@@ -94,19 +94,19 @@ pub levels_meet_removals : LevelsMeetRemovals
 levels_meet_removals all came places keep levels held = record {
   count = held.count;
   each = λ number lt.
-    let old = held.each number lt in
-    let level = level_at levels number in
-    record {
-      width = old.width;
-      widths = old.widths;
-      have_come = old.have_come;
-      filed = record {
-        living = rows_fewer places keep level.rows level.entries
-          ∙ ap (living_entries (row_lives (filter keep places) level.rows)) old.filed.living
-          ∙ sym (rows_fewer places keep level.rows (filed (drop (number + 1) all) came 0 level.rows));
-        numbered = old.filed.numbered;
+      let old = held.each number lt in
+      let level = level_at levels number in
+      record {
+        width = old.width;
+        widths = old.widths;
+        have_come = old.have_come;
+        filed = record {
+          living = rows_fewer places keep level.rows level.entries
+              ∙ ap (living_entries (row_lives (filter keep places) level.rows)) old.filed.living
+              ∙ sym (rows_fewer places keep level.rows (filed (drop (number + 1) all) came 0 level.rows));
+          numbered = old.filed.numbered;
+        };
       };
-    };
 }
 
 -- stores
@@ -135,6 +135,7 @@ last_lives join came places place = step (passes_at join came place)
   where
     here : has_number (places ++ place ∷ []) place ≡ true
     here = has_number-push places place place ∙ ap (λ b. has_number places place || b) (eq-eqb place place refl) ∙ or_last (has_number places place)
+
     step : (b : Bool) → living_entries (has_number (places ++ place ∷ [])) (map (λ p. (hash_at join came p, p)) (cond b (place ∷ []) [])) ≡ map (λ p. (hash_at join came p, p)) (cond b (place ∷ []) [])
     step true = ap (λ t. cond t ((hash_at join came place, place) ∷ []) []) here
     step false = refl
@@ -156,10 +157,10 @@ stores_meet_arrivals join came places e entries new below is held =
     ∙ held.living ∙ sym (store-come join came e places below) in
     record {
       living = ap (filter has) is ∙ filter-append has entries last ∙ ap (λ es. es ++ filter has last) old
-        ∙ ap (λ es. store_entries join (came ++ e ∷ []) places ++ es) (last_lives join (came ++ e ∷ []) places (length came))
-        ∙ sym (store-append join (came ++ e ∷ []) places (length came ∷ []));
+          ∙ ap (λ es. store_entries join (came ++ e ∷ []) places ++ es) (last_lives join (came ++ e ∷ []) places (length came))
+          ∙ sym (store-append join (came ++ e ∷ []) places (length came ∷ []));
       have_come = subst (λ es. AllByRecursion (λ (x : ℕ × ℕ). x.1 < length (came ++ e ∷ [])) es) (sym is)
-        (Each-append (λ (x : ℕ × ℕ). x.1 < length (came ++ e ∷ [])) entries last
+          (Each-append (λ (x : ℕ × ℕ). x.1 < length (came ++ e ∷ [])) entries last
           (Each-weaker (λ (x : ℕ × ℕ). x.1 < length came) (λ (x : ℕ × ℕ). x.1 < length (came ++ e ∷ [])) (λ x lt. omega (arith, lt, length-append came (e ∷ []))) entries held.have_come)
           (last_come join (came ++ e ∷ []) (length came) (omega (arith, length-append came (e ∷ [])))));
     }
@@ -167,9 +168,10 @@ stores_meet_arrivals join came places e entries new below is held =
 -- the places that are left pass as before
 members : (places : List ℕ) → AllByRecursion (λ p. has_number places p ≡ true) places
 members [] = tt
-members (place ∷ places) =
-    (ap (λ b. b || has_number places place) (eq-eqb place place refl),
-      Each-weaker (λ p. has_number places p ≡ true) (λ p. ((place == p) || has_number places p) ≡ true) (λ p has. ap (λ b. (place == p) || b) has ∙ or_last (place == p)) places (members places))
+members (place ∷ places) = (
+  ap (λ b. b || has_number places place) (eq-eqb place place refl),
+  Each-weaker (λ p. has_number places p ≡ true) (λ p. ((place == p) || has_number places p) ≡ true) (λ p has. ap (λ b. (place == p) || b) has ∙ or_last (place == p)) places (members places),
+)
 
 map_step : (f : ℕ → ℕ × ℕ) (b : Bool) (x : ℕ) (ys : List (ℕ × ℕ)) (xs : List ℕ) → ys ≡ map f xs → cond b (f x ∷ ys) ys ≡ map f (cond b (x ∷ xs) xs)
 map_step f true x ys xs is = ap (λ zs. f x ∷ zs) is
@@ -199,14 +201,14 @@ stores_meet_removals join came places keep entries held =
     let kept : filter has (filter goes places) ≡ filter goes (filter keep places) =
     sym (filter-both has goes both places (Each-always (λ p. both p ≡ (has p && goes p)) (λ p. refl) places))
     ∙ filter-both goes keep both places
-      (Each-weaker (λ p. has_number places p ≡ true) (λ p. both p ≡ (goes p && keep p))
-        (λ p member. ap (λ b. b && goes p) (has_number-filter keep places p ∙ ap (λ b. keep p && b) member ∙ and_true (keep p)) ∙ swap_step (keep p) (goes p)) places (members places)) in
+    (Each-weaker (λ p. has_number places p ≡ true) (λ p. both p ≡ (goes p && keep p))
+    (λ p member. ap (λ b. b && goes p) (has_number-filter keep places p ∙ ap (λ b. keep p && b) member ∙ and_true (keep p)) ∙ swap_step (keep p) (goes p)) places (members places)) in
     record {
       living = filter-both now before now entries
-        (Each-always (λ e. now e ≡ (now e && before e)) (λ e. fewer_step (now e) (before e) (λ is. second (keep e.1) (before e) (sym (has_number-filter keep places e.1) ∙ is))) entries)
-        ∙ ap (filter now) held.living
-        ∙ filter-map (λ p. (hash_at join came p, p)) now (filter goes places)
-        ∙ ap (map (λ p. (hash_at join came p, p))) kept;
+          (Each-always (λ e. now e ≡ (now e && before e)) (λ e. fewer_step (now e) (before e) (λ is. second (keep e.1) (before e) (sym (has_number-filter keep places e.1) ∙ is))) entries)
+          ∙ ap (filter now) held.living
+          ∙ filter-map (λ p. (hash_at join came p, p)) now (filter goes places)
+          ∙ ap (map (λ p. (hash_at join came p, p))) kept;
       have_come = held.have_come;
     }
   where

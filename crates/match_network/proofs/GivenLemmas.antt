@@ -40,7 +40,7 @@ same_lives : (places : List ℕ) (rows more : List (List ℕ)) (entries : List (
 same_lives places rows more entries numbered =
     filter-agree (λ (e : ℕ × ℕ). row_lives places (rows ++ more) e.1) (λ (e : ℕ × ℕ). row_lives places rows e.1) entries
     (Each-weaker (λ (e : ℕ × ℕ). e.1 < length rows) (λ (e : ℕ × ℕ). row_lives places (rows ++ more) e.1 ≡ row_lives places rows e.1)
-      (λ e lt. ap (is_living places) (get_or_append_left rows more [] e.1 lt)) entries numbered)
+    (λ e lt. ap (is_living places) (get_or_append_left rows more [] e.1 lt)) entries numbered)
 
 pub IsFiled-more : (next : List Join) (came : List Element) (places : List ℕ) (level : LevelRows) (rows : List (List ℕ)) → IsFiled next came places level → IsFiled next came places (with_rows next came level rows)
 IsFiled-more next came places level rows held =
@@ -53,12 +53,12 @@ IsFiled-more next came places level rows held =
     filed-append next came 0 level.rows rows ∙ ap (λ k. filed next came 0 level.rows ++ filed next came k rows) (let same : 0 + n ≡ n = omega arith in same) in
     record {
       living = filter-append alive level.entries (filed next came n rows)
-        ∙ ap (λ es. es ++ filter alive (filed next came n rows)) old
-        ∙ sym (filter-append alive (filed next came 0 level.rows) (filed next came n rows))
-        ∙ ap (filter alive) (sym whole);
+          ∙ ap (λ es. es ++ filter alive (filed next came n rows)) old
+          ∙ sym (filter-append alive (filed next came 0 level.rows) (filed next came n rows))
+          ∙ ap (filter alive) (sym whole);
       numbered = Each-append (λ (e : ℕ × ℕ). e.1 < length all) level.entries (filed next came n rows)
-        (Each-weaker (λ (e : ℕ × ℕ). e.1 < n) (λ (e : ℕ × ℕ). e.1 < length all) (λ e lt. omega (arith, lt, length-append level.rows rows)) level.entries held.numbered)
-        (filed-numbered next came n rows (length all) (omega (arith, length-append level.rows rows)));
+          (Each-weaker (λ (e : ℕ × ℕ). e.1 < n) (λ (e : ℕ × ℕ). e.1 < length all) (λ e lt. omega (arith, lt, length-append level.rows rows)) level.entries held.numbered)
+          (filed-numbered next came n rows (length all) (omega (arith, length-append level.rows rows)));
     }
 
 pub IsLevelOf-more : (all next : List Join) (came : List Element) (places : List ℕ) (number : ℕ) (level : LevelRows) (rows : List (List ℕ)) → IsLevelOf all came places number level → next ≡ drop (number + 1) all → AllByRecursion (λ row. length row ≡ number + 1) rows → AllByRecursion (HaveCome came) rows → IsLevelOf all came places number (with_rows next came level rows)
@@ -83,8 +83,8 @@ pub AreFiled-set : (all : List Join) (came : List Element) (places : List ℕ) (
 AreFiled-set all came places levels number level held lt is = record {
   count = length-set levels number level ∙ held.count;
   each = λ other within. level_set levels number other level (IsLevelOf all came places other) lt
-    (λ same. subst (λ n. IsLevelOf all came places n level) (sym same) is)
-    (λ apart. held.each other (omega (arith, within, length-set levels number level)));
+      (λ same. subst (λ n. IsLevelOf all came places n level) (sym same) is)
+      (λ apart. held.each other (omega (arith, within, length-set levels number level)));
 }
 
 rows_of-set : (levels : List LevelRows) (number : ℕ) (level : LevelRows) (width : ℕ) → (width == number + 1) ≡ false → rows_of (set levels number level) width ≡ rows_of levels width
@@ -129,8 +129,8 @@ joined_by all join came places place number rows at widths =
     let keep : Joins → List ℕ → Bool = λ (js : Joins) (row : List ℕ). (is_living places row && not (has_number row place)) && extends js came row place in
     ap reverse
     (filter-agree (keep (only join)) (keep (joins_of all)) rows
-      (Each-weaker (λ row. length row ≡ number) (λ row. keep (only join) row ≡ keep (joins_of all) row)
-        (λ row long. ap (λ b. (is_living places row && not (has_number row place)) && b) (extends_by all join came row place number at long)) rows widths))
+    (Each-weaker (λ row. length row ≡ number) (λ row. keep (only join) row ≡ keep (joins_of all) row)
+    (λ row long. ap (λ b. (is_living places row && not (has_number row place)) && b) (extends_by all join came row place number at long)) rows widths))
 
 pub grown_by : (all : List Join) (join : Join) (came : List Element) (places : List ℕ) (number : ℕ) (rows : List (List ℕ)) → slice_get all number ≡ Some join → AllByRecursion (λ row. length row ≡ number) rows → grown (only join) came places rows ≡ grown (joins_of all) came places rows
 grown_by all join came places number [] at widths = refl
@@ -139,7 +139,7 @@ grown_by all join came places number (row ∷ rows) at widths =
     let here : f (only join) row ≡ f (joins_of all) row =
     ap (λ ps. map (λ p. with_place p row) (reverse ps))
     (filter-agree (extends (only join) came row) (extends (joins_of all) came row) places
-      (Each-always (λ p. extends (only join) came row p ≡ extends (joins_of all) came row p) (λ p. extends_by all join came row p number at widths.0) places)) in
+    (Each-always (λ p. extends (only join) came row p ≡ extends (joins_of all) came row p) (λ p. extends_by all join came row p number at widths.0) places)) in
     flat_map-cons (f (only join)) row rows
     ∙ ap (λ rs. rs ++ grown (only join) came places rows) here
     ∙ ap (λ rs. f (joins_of all) row ++ rs) (grown_by all join came places number rows at widths.1)
@@ -151,15 +151,15 @@ joined-widths joins came places place number rows widths =
     let keep : List ℕ → Bool = λ row. (is_living places row && not (has_number row place)) && extends joins came row place in
     Each-map (λ row. length row ≡ number + 1) (with_place place) (joined joins came places place rows)
     (Each-weaker (λ row. length row ≡ number) (λ row. length (row ++ place ∷ []) ≡ number + 1) (λ row long. omega (arith, long, length-append row (place ∷ []))) (joined joins came places place rows)
-      (Each-reverse (λ row. length row ≡ number) (filter keep rows) (Each-filter (λ row. length row ≡ number) keep rows widths)))
+    (Each-reverse (λ row. length row ≡ number) (filter keep rows) (Each-filter (λ row. length row ≡ number) keep rows widths)))
 
 pub grown-widths : (joins : Joins) (came : List Element) (places : List ℕ) (number : ℕ) (rows : List (List ℕ)) → AllByRecursion (λ row. length row ≡ number) rows → AllByRecursion (λ row. length row ≡ number + 1) (grown joins came places rows)
 grown-widths joins came places number rows widths =
     Each-flat_map (λ row. length row ≡ number + 1) (λ row. map (λ p. with_place p row) (offered joins came places row)) rows
     (Each-weaker (λ row. length row ≡ number) (λ row. AllByRecursion (λ r. length r ≡ number + 1) (map (λ p. with_place p row) (offered joins came places row)))
-      (λ row long. Each-map (λ r. length r ≡ number + 1) (λ p. with_place p row) (offered joins came places row)
-        (Each-always (λ p. length (row ++ p ∷ []) ≡ number + 1) (λ p. omega (arith, long, length-append row (p ∷ []))) (offered joins came places row)))
-      rows widths)
+    (λ row long. Each-map (λ r. length r ≡ number + 1) (λ p. with_place p row) (offered joins came places row)
+    (Each-always (λ p. length (row ++ p ∷ []) ≡ number + 1) (λ p. omega (arith, long, length-append row (p ∷ []))) (offered joins came places row)))
+    rows widths)
 
 -- what is true whether a call failed or not
 pub by_result : {T E P Q R : Type 0} (r : Result T E) → OnOk r P → OnErr r Q → (P → R) → (Q → R) → R
@@ -186,6 +186,7 @@ alone_made all join came places place at passed =
   where
     one_way : Bool → List (List ℕ)
     one_way b = map (λ p. with_place p []) (cond b (place ∷ []) [])
+
     both : (b : Bool) → map (λ p. with_place p []) (cond b (place ∷ []) []) ≡ map (with_place place) (reverse (cond ((true && true) && b) ([] ∷ []) []))
     both true = refl
     both false = refl
@@ -201,7 +202,7 @@ begun_first all next join came places place levels new held lt within at is pass
     record {
       given = given_set next came levels new 0 rows lt now;
       filed = filed_set all next came places levels new 0 rows held lt is
-        (joined-widths (joins_of all) came places place 0 ([] ∷ []) (refl, tt)) (joined-come (joins_of all) came places place ([] ∷ []) within (tt, tt)) now;
+          (joined-widths (joins_of all) came places place 0 ([] ∷ []) (refl, tt)) (joined-come (joins_of all) came places place ([] ∷ []) within (tt, tt)) now;
     }
 
 pub begun_alone : (all next : List Join) (join : Join) (came : List Element) (places : List ℕ) (place at : ℕ) (levels new : List LevelRows) → at ≡ 0 → AreFiled all came places levels → at < length all → slice_get all at ≡ Some join → next ≡ drop (at + 1) all → passes_at join came place ≡ true → new ≡ set levels 0 (with_rows next came (level_at levels 0) (extended join came [] (place ∷ []))) → Begun all came places place at levels new
@@ -262,23 +263,25 @@ rows_widths all came places (suc at) levels held le =
 pub rows_come : (all : List Join) (came : List Element) (places : List ℕ) (at : ℕ) (levels : List LevelRows) → AreFiled all came places levels → at ≤ length all → AllByRecursion (HaveCome came) (rows_of levels at)
 rows_come all came places zero levels held le = (tt, tt)
 rows_come all came places (suc at) levels held le = (held.each at (omega (arith, le, held.count))).have_come
+
 -- the first of the rows only
 pub begun_part : (all next : List Join) (join : Join) (came : List Element) (places : List ℕ) (at : ℕ) (levels new : List LevelRows) (rows : List (List ℕ)) → 0 < at → AreFiled all came places levels → at < length all → slice_get all at ≡ Some join → next ≡ drop (at + 1) all → AllByRecursion (λ row. length row ≡ at + 1) rows → AllByRecursion (HaveCome came) rows → (level : LevelRows) → IsBegun (join ∷ next) came places at levels new level → IsPart next came (level_at levels at) level rows → IsGivenPart (at + 1) (rows_of levels) (rows_of new) rows × AreFiled all came places new
 begun_part all next join came places at levels new rows some held lt there is widths come level begun part =
     let first = part.1.some in
     let each = begun_joined all next join came places at levels new level first some held lt there is
-      (Each-first (λ row. length row ≡ at + 1) first part.0 (subst (AllByRecursion (λ row. length row ≡ at + 1)) part.1.split widths))
-      (Each-first (HaveCome came) first part.0 (subst (AllByRecursion (HaveCome came)) part.1.split come)) part.1.is begun in
+    (Each-first (λ row. length row ≡ at + 1) first part.0 (subst (AllByRecursion (λ row. length row ≡ at + 1)) part.1.split widths))
+    (Each-first (HaveCome came) first part.0 (subst (AllByRecursion (HaveCome came)) part.1.split come)) part.1.is begun in
     ((first, part.0, part.1.split, each.0), each.1)
 
 pub set_part : (all next : List Join) (came : List Element) (places : List ℕ) (number : ℕ) (levels new : List LevelRows) (rows : List (List ℕ)) → AreFiled all came places levels → number < length levels → next ≡ drop (number + 1) all → AllByRecursion (λ row. length row ≡ number + 1) rows → AllByRecursion (HaveCome came) rows → (level : LevelRows) → new ≡ set levels number level → IsPart next came (level_at levels number) level rows → IsGivenPart (number + 1) (rows_of levels) (rows_of new) rows × AreFiled all came places new
 set_part all next came places number levels new rows held lt is widths come level new_is part =
     let first = part.1.some in
-    let now : new ≡ set levels number (with_rows next came (level_at levels number) first) = new_is ∙ ap (set levels number) part.1.is in
-    ((first, part.0, part.1.split, given_set next came levels new number first lt now),
+    let now : new ≡ set levels number (with_rows next came (level_at levels number) first) = new_is ∙ ap (set levels number) part.1.is in (
+      (first, part.0, part.1.split, given_set next came levels new number first lt now),
       filed_set all next came places levels new number first held lt is
-        (Each-first (λ row. length row ≡ number + 1) first part.0 (subst (AllByRecursion (λ row. length row ≡ number + 1)) part.1.split widths))
-        (Each-first (HaveCome came) first part.0 (subst (AllByRecursion (HaveCome came)) part.1.split come)) now)
+          (Each-first (λ row. length row ≡ number + 1) first part.0 (subst (AllByRecursion (λ row. length row ≡ number + 1)) part.1.split widths))
+          (Each-first (HaveCome came) first part.0 (subst (AllByRecursion (HaveCome came)) part.1.split come)) now,
+    )
 
 -- what comes of the last rows of a level
 pub Each-drop : {X : Type 0} (P : X → Type 0) (n : ℕ) (xs : List X) → AllByRecursion P xs → AllByRecursion P (drop n xs)
@@ -330,7 +333,7 @@ AreCleaned-set places stores number store other lt cleaned at = elim (cases_eq a
   | inl same ↦
       subst (λ n. IsCleaned places (entries_at stores n) (entries_at (set stores number store) n)) (sym same)
       (subst (λ (s : Buckets). IsCleaned places (entries_at stores number) s.entries) (sym (get_or-set_same stores number store no_store lt))
-        (subst (λ (s : Buckets). IsCleaned places s.entries store.entries) (get_or_default stores number other no_store lt) cleaned))
+      (subst (λ (s : Buckets). IsCleaned places s.entries store.entries) (get_or_default stores number other no_store lt) cleaned))
   | inr apart ↦
       subst (λ (s : Buckets). IsCleaned places (entries_at stores at) s.entries) (sym (get_or-set_other stores number at store no_store apart))
       (IsCleaned-none places (entries_at stores at))

@@ -75,8 +75,8 @@ add_step true false false any there alone = refl
 held_once : (joins : Joins) (came : List Element) (places : List ℕ) (place at : ℕ) (done : List ℕ) (levels : Levels) → AreWoven joins came places place done levels → IsOnce joins came places place at (levels at)
 held_once joins came places place at done levels held = record {
   once = λ row long living without.
-    ap (λ width. times (same_numbers row) (levels width)) (sym long) ∙ held.once row living
-    ∙ ap (λ b. one (is_match joins came row && (b || list_any (λ o. is_first place o row) done))) without ∙ all (is_match joins came row);
+      ap (λ width. times (same_numbers row) (levels width)) (sym long) ∙ held.once row living
+      ∙ ap (λ b. one (is_match joins came row && (b || list_any (λ o. is_first place o row) done))) without ∙ all (is_match joins came row);
 }
   where
     all : (b : Bool) → one (b && true) ≡ one b
@@ -125,7 +125,7 @@ come_without came row has rows come =
     times-none (same_numbers row) rows
     (Each-weaker (HaveCome came) (λ other. same_numbers row other ≡ false)
     (λ other of_other. differs_step (same_numbers row other) row other refl
-      (λ same. let lt : length came < length came = Each-has (λ p. p < length came) row (length came) (subst (HaveCome came) (sym same) of_other) has in omega (arith, lt))) rows come)
+    (λ same. let lt : length came < length came = Each-has (λ p. p < length came) row (length came) (subst (HaveCome came) (sym same) of_other) has in omega (arith, lt))) rows come)
 
 -- what lives without the last place lived before
 living_step : (in_new same in_old rest rest_old : Bool) → in_new ≡ (in_old || same) → same ≡ false → (rest ≡ true → rest_old ≡ true) → (in_new && rest) ≡ true → (in_old && rest_old) ≡ true
@@ -185,7 +185,7 @@ joins_step joins came place e before row next true is there joined rest = record
   first = is;
   before = elements_of came before;
   joined = some_step (joins (length before + 0) (elements_of came before)) (slice_get came next) e (ap (slice_get came) (eqb-true next place is) ∙ there)
-    (ap (λ n. some_passes (joins n (elements_of came before)) (slice_get came next)) (let same : length before + 0 ≡ length before = omega arith in same) ∙ joined);
+      (ap (λ n. some_passes (joins n (elements_of came before)) (slice_get came next)) (let same : length before + 0 ≡ length before = omega arith in same) ∙ joined);
 }
 joins_step joins came place e before row next false is there joined rest =
     let later = rest refl in
@@ -195,6 +195,7 @@ joins_step joins came place e before row next false is there joined rest =
       before = later.before;
       joined = ap (λ n. joins n later.before e) (let same : length before + suc later.at ≡ length (before ++ next ∷ []) + later.at = omega (arith, length-append before (next ∷ [])) in same) ∙ later.joined;
     }
+
 joins_at : (joins : Joins) (came : List Element) (place : ℕ) (e : Element) (before row : List ℕ) → slice_get came place ≡ Some e → joins_after joins came before row ≡ true → has_number row place ≡ true → JoinsAt joins place row e (length before)
 joins_at joins came place e before [] there matches has = absurd (let wrong : ⊥ = cc in wrong)
 joins_at joins came place e before (next ∷ row) there matches has =
@@ -239,27 +240,27 @@ living_without places row place below living has =
     living_below : (places row : List ℕ) (place : ℕ) → AllByRecursion (λ p. p < place) places → is_living places row ≡ true → AllByRecursion (λ p. p < place) row
     living_below places [] place below living = tt
     living_below places (next ∷ row) place below living =
-      let parts = and_parts (has_number places next) (is_living places row) living in
-      (Each-has (λ p. p < place) places next below parts.0, living_below places row place below parts.1)
+        let parts = and_parts (has_number places next) (is_living places row) living in
+        (Each-has (λ p. p < place) places next below parts.0, living_below places row place below parts.1)
 
 stopped_none : (came : List Element) (places row : List ℕ) → AllByRecursion (λ p. p < length came) places → is_living places row ≡ true → (rows : List (List ℕ)) → AllByRecursion (λ other. has_number other (length came) ≡ true) rows → times (same_numbers row) rows ≡ 0
 stopped_none came places row below living rows have =
     times-none (same_numbers row) rows
     (Each-weaker (λ other. has_number other (length came) ≡ true) (λ other. same_numbers row other ≡ false)
     (λ other has. differs_step (same_numbers row other) row other refl
-      (λ same. living_without places row (length came) below living (ap (λ r. has_number r (length came)) same ∙ has))) rows have)
+    (λ same. living_without places row (length came) below living (ap (λ r. has_number r (length came)) same ∙ has))) rows have)
 
 pub weaving_may_stop : WeavingMayStop
 weaving_may_stop joins came places e levels new below adds held = record {
   once = λ row living.
-    ap (times (same_numbers row)) (adds (length row)).1
-    ∙ times-append (same_numbers row) (levels (length row)) (adds (length row)).0
-    ∙ (let none : times (same_numbers row) (levels (length row)) + times (same_numbers row) (adds (length row)).0 ≡ times (same_numbers row) (levels (length row)) = omega (arith, stopped_none came places row below living (adds (length row)).0 (Each-weaker (λ r. HaveCome (came ++ e ∷ []) r × (has_number r (length came) ≡ true)) (λ r. has_number r (length came) ≡ true) (λ r both. both.1) (adds (length row)).0 (adds (length row)).2)) in none)
-    ∙ held.once row living
-    ∙ ap one (sym (is_match-come joins came e row (HaveCome-living came places row below living)));
+      ap (times (same_numbers row)) (adds (length row)).1
+      ∙ times-append (same_numbers row) (levels (length row)) (adds (length row)).0
+      ∙ (let none : times (same_numbers row) (levels (length row)) + times (same_numbers row) (adds (length row)).0 ≡ times (same_numbers row) (levels (length row)) = omega (arith, stopped_none came places row below living (adds (length row)).0 (Each-weaker (λ r. HaveCome (came ++ e ∷ []) r × (has_number r (length came) ≡ true)) (λ r. has_number r (length came) ≡ true) (λ r both. both.1) (adds (length row)).0 (adds (length row)).2)) in none)
+      ∙ held.once row living
+      ∙ ap one (sym (is_match-come joins came e row (HaveCome-living came places row below living)));
   have_come = λ width. subst (AllByRecursion (HaveCome (came ++ e ∷ []))) (sym (adds width).1) (Each-append (HaveCome (came ++ e ∷ [])) (levels width) (adds width).0
-    (Each-weaker (HaveCome came) (HaveCome (came ++ e ∷ [])) (λ row come. HaveCome-more came e row come) (levels width) (held.have_come width))
-    (Each-weaker (λ r. HaveCome (came ++ e ∷ []) r × (has_number r (length came) ≡ true)) (HaveCome (came ++ e ∷ [])) (λ r both. both.0) (adds width).0 (adds width).2));
+      (Each-weaker (HaveCome came) (HaveCome (came ++ e ∷ [])) (λ row come. HaveCome-more came e row come) (levels width) (held.have_come width))
+      (Each-weaker (λ r. HaveCome (came ++ e ∷ []) r × (has_number r (length came) ≡ true)) (HaveCome (came ++ e ∷ [])) (λ r both. both.0) (adds width).0 (adds width).2));
 }
 
 pub adding_goes_on : AddingGoesOn
@@ -296,8 +297,8 @@ kept_step false keep is = refl
 pub dead_may_go : DeadMayGo
 dead_may_go joins came places keep levels kept held = record {
   once = λ row living.
-    times-filter (same_numbers row) keep (levels (length row))
-    ∙ times-agree (λ other. same_numbers row other && keep other) (same_numbers row) (λ other. kept_step (same_numbers row other) (keep other) (λ same. ap keep (sym (same_row row other same)) ∙ kept row living)) (levels (length row))
-    ∙ held.once row living;
+      times-filter (same_numbers row) keep (levels (length row))
+      ∙ times-agree (λ other. same_numbers row other && keep other) (same_numbers row) (λ other. kept_step (same_numbers row other) (keep other) (λ same. ap keep (sym (same_row row other same)) ∙ kept row living)) (levels (length row))
+      ∙ held.once row living;
   have_come = λ width. Each-filter (HaveCome came) keep (levels width) (held.have_come width);
 }

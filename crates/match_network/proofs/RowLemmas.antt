@@ -25,7 +25,7 @@ same_numbers-push row other place last =
     (Decides-like (same_numbers row other && (place == last)) (both_push row other place last) (same_from_push row other place last) (Decides-and (same_numbers row other) (place == last) (bytes_eq-Decides row other) (Decides-eqb place last)))
 
 -- a row of some places is a row and its last place
-pub last_of : (row : List ℕ) → 0 < length row → (init : List ℕ) × (last : ℕ) × (row ≡ init ++ last ∷ []) 
+pub last_of : (row : List ℕ) → 0 < length row → (init : List ℕ) × (last : ℕ) × (row ≡ init ++ last ∷ [])
 last_of [] some = absurd (omega (arith, some))
 last_of (place ∷ []) some = ([], place, refl)
 last_of (place ∷ next ∷ row) some =

@@ -141,8 +141,8 @@ HaveArrived-push came places count e held few above = record {
   tags = tags-push came e held.tags above;
   rising = Rises-push count places held.rising (Each-weaker (λ p. p < length came) (λ p. p < count) (λ p lt. omega (arith, lt, held.counted)) places held.below);
   below = Each-append (λ p. p < length (came ++ e ∷ [])) places (count ∷ [])
-    (Each-weaker (λ p. p < length came) (λ p. p < length (came ++ e ∷ [])) (λ p lt. omega (arith, lt, length-append came (e ∷ []))) places held.below)
-    (omega (arith, held.counted, length-append came (e ∷ [])), tt);
+      (Each-weaker (λ p. p < length came) (λ p. p < length (came ++ e ∷ [])) (λ p lt. omega (arith, lt, length-append came (e ∷ []))) places held.below)
+      (omega (arith, held.counted, length-append came (e ∷ [])), tt);
 }
 
 pub HaveArrived-filter : (came : List Element) (places : List ℕ) (count : ℕ) (keep : ℕ → Bool) → HaveArrived came places count → HaveArrived came (filter keep places) count

@@ -30,15 +30,15 @@ joined-has : (js : Joins) (came : List Element) (places : List ℕ) (place : ℕ
 joined-has js came places place rows =
     Each-map (λ row. has_number row place ≡ true) (with_place place) (joined js came places place rows)
     (Each-always (λ row. has_number (row ++ place ∷ []) place ≡ true)
-      (λ row. has_number-push row place place ∙ ap (λ b. has_number row place || b) (eq-eqb place place refl) ∙ or_last (has_number row place)) (joined js came places place rows))
+    (λ row. has_number-push row place place ∙ ap (λ b. has_number row place || b) (eq-eqb place place refl) ∙ or_last (has_number row place)) (joined js came places place rows))
 
 grown-has : (js : Joins) (came : List Element) (places : List ℕ) (place : ℕ) (rows : List (List ℕ)) → AllByRecursion (λ row. has_number row place ≡ true) rows → AllByRecursion (λ row. has_number row place ≡ true) (grown js came places rows)
 grown-has js came places place rows have =
     Each-flat_map (λ row. has_number row place ≡ true) (λ row. map (λ p. with_place p row) (offered js came places row)) rows
     (Each-weaker (λ row. has_number row place ≡ true) (λ row. AllByRecursion (λ r. has_number r place ≡ true) (map (λ p. with_place p row) (offered js came places row)))
-      (λ row has. Each-map (λ r. has_number r place ≡ true) (λ p. with_place p row) (offered js came places row)
-        (Each-always (λ p. has_number (row ++ p ∷ []) place ≡ true) (λ p. has_number-push row p place ∙ ap (λ b. b || (p == place)) has) (offered js came places row)))
-      rows have)
+    (λ row has. Each-map (λ r. has_number r place ≡ true) (λ p. with_place p row) (offered js came places row)
+    (Each-always (λ p. has_number (row ++ p ∷ []) place ≡ true) (λ p. has_number-push row p place ∙ ap (λ b. b || (p == place)) has) (offered js came places row)))
+    rows have)
 
 made-has : (js : Joins) (came : List Element) (places : List ℕ) (place : ℕ) (rows : List (List ℕ)) (further : ℕ) → AllByRecursion (λ row. has_number row place ≡ true) (made js came places place rows further)
 made-has js came places place rows zero = joined-has js came places place rows
@@ -162,9 +162,13 @@ stopped_at_once js came places place at old new lt below come part width =
     let found : More came place (old width) (new width) = elim (cases_eq width (at + 1)) [
       | inl same ↦
           subst (λ w. More came place (old w) (new w)) (sym same)
-          (record { more = part.0; is = part.3.given; each = are_of came place part.0
-              (Each-first (HaveCome came) part.0 part.1 (subst (AllByRecursion (HaveCome came)) part.2 (made-come js came places place (old at) below lt come 0)))
-              (Each-first (λ row. has_number row place ≡ true) part.0 part.1 (subst (AllByRecursion (λ row. has_number row place ≡ true)) part.2 (made-has js came places place (old at) 0))) })
+          (record {
+            more = part.0;
+            is = part.3.given;
+            each = are_of came place part.0
+                (Each-first (HaveCome came) part.0 part.1 (subst (AllByRecursion (HaveCome came)) part.2 (made-come js came places place (old at) below lt come 0)))
+                (Each-first (λ row. has_number row place ≡ true) part.0 part.1 (subst (AllByRecursion (λ row. has_number row place ≡ true)) part.2 (made-has js came places place (old at) 0)));
+          })
       | inr apart ↦ no_more came place (old width) (new width) (part.3.others width (ne_eqb width (at + 1) apart))
     ] in
     (found.more, found.is, found.each)
@@ -191,8 +195,8 @@ stopped_later js came places place at old now new number first lt below come way
             more = part.0;
             is = part.3.given ∙ ap (λ rs. rs ++ part.0) (way.left (number + 1) (omega arith));
             each = are_of came place part.0
-              (Each-first (HaveCome came) part.0 part.1 (subst (AllByRecursion (HaveCome came)) part.2 (grown-come js came places (drop first (now number)) below last_come)))
-              (Each-first (λ row. has_number row place ≡ true) part.0 part.1 (subst (AllByRecursion (λ row. has_number row place ≡ true)) part.2 (grown-has js came places place (drop first (now number)) last_have)));
+                (Each-first (HaveCome came) part.0 part.1 (subst (AllByRecursion (HaveCome came)) part.2 (grown-come js came places (drop first (now number)) below last_come)))
+                (Each-first (λ row. has_number row place ≡ true) part.0 part.1 (subst (AllByRecursion (λ row. has_number row place ≡ true)) part.2 (grown-has js came places place (drop first (now number)) last_have)));
           })
       | inr apart ↦ (
           let here : new width ≡ now width = part.3.others width (ne_eqb width (number + 1) apart) in

@@ -170,5 +170,9 @@ fn end_of(elements: &Elements, tag: u64) -> usize
         return 0;
     }
     let apart = tag - first;
-    if apart < len as u64 { apart as usize + 1 } else { len }
+    if apart < len as u64 {
+        apart as usize + 1
+    } else {
+        len
+    }
 }

@@ -2,9 +2,9 @@
 //! to the next. It fires nothing, and knows no journal and no order of choices.
 #![tactic(auto)]
 
-pub mod laws;
 mod arrivals;
 mod filing;
+pub mod laws;
 mod level;
 mod row_view;
 mod rows;

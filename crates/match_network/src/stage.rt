@@ -54,18 +54,18 @@ fn has_place(row: &[u32], place: u32) -> bool
 }
 
 /// Whether the element at a place agrees with those of a row.
-fn agrees_at<L: Ledger>(
-    stage: &Stage<'_>,
-    row: &[u32],
-    place: u32,
-    steps: &mut Steps<L>,
-) -> bool
+fn agrees_at<L: Ledger>(stage: &Stage<'_>, row: &[u32], place: u32, steps: &mut Steps<L>) -> bool
     requires come { HaveCome stage.now.arrivals.now.came row.now }
     requires place { place < length stage.now.arrivals.now.came }
     ensures { result ≡ agrees_at stage.now.join.now stage.now.arrivals.now.came row.now place }
 {
     let element = stage.arrivals.at(place);
-    agrees(stage.join, &RowView::new(row, stage.arrivals), element, steps)
+    agrees(
+        stage.join,
+        &RowView::new(row, stage.arrivals),
+        element,
+        steps,
+    )
 }
 
 /// Whether a row is without a place, and the element there agrees with its own.

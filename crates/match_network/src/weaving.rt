@@ -83,10 +83,10 @@ fn begin_joined<L: Ledger>(
     ensures count { IfOk result (λ count. count ≡ length (level_at levels.old number).rows) }
     ensures ok { OnOk result (IsBegun (stage.now.join.now ∷ stage.now.next.now) stage.now.arrivals.now.came stage.now.arrivals.now.places number levels.old levels.new
         (with_rows stage.now.next.now stage.now.arrivals.now.came (level_at levels.old number)
-          (map (with_place place) (joined (only stage.now.join.now) stage.now.arrivals.now.came stage.now.arrivals.now.places place (level_at levels.old (number - 1)).rows)))) }
+        (map (with_place place) (joined (only stage.now.join.now) stage.now.arrivals.now.came stage.now.arrivals.now.places place (level_at levels.old (number - 1)).rows)))) }
     ensures err { OnErr result ((level : LevelRows) × IsBegun (stage.now.join.now ∷ stage.now.next.now) stage.now.arrivals.now.came stage.now.arrivals.now.places number levels.old levels.new level
         × IsPart stage.now.next.now stage.now.arrivals.now.came (level_at levels.old number) level
-          (map (with_place place) (joined (only stage.now.join.now) stage.now.arrivals.now.came stage.now.arrivals.now.places place (level_at levels.old (number - 1)).rows))) }
+        (map (with_place place) (joined (only stage.now.join.now) stage.now.arrivals.now.came stage.now.arrivals.now.places place (level_at levels.old (number - 1)).rows))) }
 {
     let (front, back) = levels.split_at_mut(number);
     let before = &mut front[number - 1];

@@ -12,5 +12,5 @@ loop-low-preserved c =
     elim c.if-found-tag-2.branch [
       | then-found-tag-2 w ↦ rw (w.low-is, w.high-is) (left_behind c.args.elements.now c.args.tag l.low l.high l.middle e c.requires c.loop-low-test.true c.at-found.ensures w.if-found-tag-2.true l.invariant)
       | else-found-tag-2 w ↦ rw (w.low-is, w.high-is)
-        (left_ahead c.args.elements.now c.args.tag l.low l.high l.middle e c.requires c.loop-low-test.true c.at-found.ensures (let lt : c.args.tag < e.tag = omega (arith, w.if-found-tag-2.false, c.if-found-tag.false) in lt) l.invariant)
+          (left_ahead c.args.elements.now c.args.tag l.low l.high l.middle e c.requires c.loop-low-test.true c.at-found.ensures (let lt : c.args.tag < e.tag = omega (arith, w.if-found-tag-2.false, c.if-found-tag.false) in lt) l.invariant)
     ]

@@ -19,7 +19,7 @@ pub extend_by-requires-clause-have_come : goal.extend_by-requires-clause-have_co
 extend_by-requires-clause-have_come g c =
     let stage = c.args.stage.now in
     (IsStore-cleaned stage.join.now stage.arrivals.now.came stage.arrivals.now.places c.args.store.now.entries c.clean.new.self.entries
-      (IsCleaned-stays stage.arrivals.now.places c.args.store.now.entries c.clean.new.self.entries c.row_hash-hash.result c.clean.ensures.entries) c.requires.store).have_come
+    (IsCleaned-stays stage.arrivals.now.places c.args.store.now.entries c.clean.new.self.entries c.row_hash-hash.result c.clean.ensures.entries) c.requires.store).have_come
 
 pub returns-clause-ok : goal.returns-clause-ok
 returns-clause-ok g c =

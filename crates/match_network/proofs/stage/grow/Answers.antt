@@ -77,4 +77,4 @@ returns-clause-ok g c =
     let all = grown (only stage.join.now) came places (drop c.args.first rows) in
     so_far_all stage.next.now came c.args.after.now l.after all
     (subst (λ (rs : List (List ℕ)). IsSoFar stage.next.now came c.args.after.now l.after all rs)
-      (grown-end (only stage.join.now) came places rows l.number (let past : length rows ≤ l.number = omega (arith, c.len-number-end.ensures.value, c.loop-number-test.false) in past)) l.invariant.so_far)
+    (grown-end (only stage.join.now) came places rows l.number (let past : length rows ≤ l.number = omega (arith, c.len-number-end.ensures.value, c.loop-number-test.false) in past)) l.invariant.so_far)

@@ -100,7 +100,7 @@ returns-else-at-eq0-clause-ok g c =
     let whole = made_joined joins join a.came a.places c.args.place c.args.at levels some held c.requires.at there in
     subst (λ (b : Arrivals). OnOk c.begin_joined.result (IsGiven (c.args.at + 1) (rows_of levels) (rows_of new) (made (joins_of joins) b.came b.places c.args.place (rows_of levels c.args.at) 0))) same
     (subst (λ rs. OnOk c.begin_joined.result (IsGiven (c.args.at + 1) (rows_of levels) (rows_of new) rs)) whole
-      (on_ok c.begin_joined.result (λ is. (begun_joined joins next join a.came a.places c.args.at levels new (with_rows next a.came (level_at levels c.args.at) rows) rows some held c.requires.at there c.stage-stage.ensures.next widths come refl is).0) c.begin_joined.ensures.ok))
+    (on_ok c.begin_joined.result (λ is. (begun_joined joins next join a.came a.places c.args.at levels new (with_rows next a.came (level_at levels c.args.at) rows) rows some held c.requires.at there c.stage-stage.ensures.next widths come refl is).0) c.begin_joined.ensures.ok))
 
 pub returns-else-at-eq0-clause-err : goal.returns-else-at-eq0-clause-err
 returns-else-at-eq0-clause-err g c =
@@ -124,7 +124,7 @@ returns-else-at-eq0-clause-err g c =
     let whole = made_joined joins join a.came a.places c.args.place c.args.at levels some held c.requires.at there in
     subst (λ (b : Arrivals). OnErr c.begin_joined.result (IsGivenPart (c.args.at + 1) (rows_of levels) (rows_of new) (made (joins_of joins) b.came b.places c.args.place (rows_of levels c.args.at) 0))) same
     (subst (λ rs. OnErr c.begin_joined.result (IsGivenPart (c.args.at + 1) (rows_of levels) (rows_of new) rs)) whole
-      (on_err c.begin_joined.result (λ is. (begun_part joins next join a.came a.places c.args.at levels new rows some held c.requires.at there c.stage-stage.ensures.next widths come is.0 is.1 is.2).0) c.begin_joined.ensures.err))
+    (on_err c.begin_joined.result (λ is. (begun_part joins next join a.came a.places c.args.at levels new rows some held c.requires.at there c.stage-stage.ensures.next widths come is.0 is.1 is.2).0) c.begin_joined.ensures.err))
 
 pub returns-else-at-eq0-clause-filed : goal.returns-else-at-eq0-clause-filed
 returns-else-at-eq0-clause-filed g c =
@@ -148,5 +148,5 @@ returns-else-at-eq0-clause-filed g c =
     let whole = made_joined joins join a.came a.places c.args.place c.args.at levels some held c.requires.at there in
     subst (λ (b : Arrivals). AreFiled joins b.came b.places new) same
     (by_result c.begin_joined.result c.begin_joined.ensures.ok c.begin_joined.ensures.err
-      (λ is. (begun_joined joins next join a.came a.places c.args.at levels new (with_rows next a.came (level_at levels c.args.at) rows) rows some held c.requires.at there c.stage-stage.ensures.next widths come refl is).1)
-      (λ is. (begun_part joins next join a.came a.places c.args.at levels new rows some held c.requires.at there c.stage-stage.ensures.next widths come is.0 is.1 is.2).1))
+    (λ is. (begun_joined joins next join a.came a.places c.args.at levels new (with_rows next a.came (level_at levels c.args.at) rows) rows some held c.requires.at there c.stage-stage.ensures.next widths come refl is).1)
+    (λ is. (begun_part joins next join a.came a.places c.args.at levels new rows some held c.requires.at there c.stage-stage.ensures.next widths come is.0 is.1 is.2).1))

@@ -56,5 +56,5 @@ returns-clause-ok g c =
       rows = c.in_ok-join_place.ensures.rows.0 ∙ ap (λ (l : LevelRows). l.rows) before;
       filed = c.in_ok-join_place.ensures.filed;
       is = both_set levels front back c.args.number c.join_place.new.before c.join_place.new.after c.split_at_mut-front.ensures.value c.split_at_mut-front.ensures.front_len c.requires.some
-        ∙ ap (set (set levels (c.args.number - 1) c.join_place.new.before) c.args.number) now;
+          ∙ ap (set (set levels (c.args.number - 1) c.join_place.new.before) c.args.number) now;
     }

@@ -39,7 +39,7 @@ go_on-requires-clause-store g c =
     let lt : s < length c.args.stores.now = omega (arith, is, found.2) in
     subst (λ (b : Arrivals). IsStore c.stage-stage.result.join.now b.came b.places (get_or c.args.stores.now s c.index-stores-conditions.result).entries) (sym c.stage-stage.ensures.arrivals)
     (subst (λ (t : Buckets). IsStore c.stage-stage.result.join.now c.args.conditions.now.arrivals.now.came c.args.conditions.now.arrivals.now.places t.entries) (get_or_default c.args.stores.now s (record { entries = []; links = 0 }) c.index-stores-conditions.result lt)
-      (subst (λ n. IsStore c.stage-stage.result.join.now c.args.conditions.now.arrivals.now.came c.args.conditions.now.arrivals.now.places (entries_at c.args.stores.now n)) (sym is) found.3))
+    (subst (λ n. IsStore c.stage-stage.result.join.now c.args.conditions.now.arrivals.now.came c.args.conditions.now.arrivals.now.places (entries_at c.args.stores.now n)) (sym is) found.3))
 
 pub returns-clause-ok : goal.returns-clause-ok
 returns-clause-ok g c =
@@ -58,7 +58,7 @@ returns-clause-ok g c =
     let lt : c.args.number < length levels = omega (arith, held.count, c.requires.number) in
     subst (λ (b : Arrivals). OnOk c.go_on.result (IsGiven (c.args.number + 1) (rows_of levels) (rows_of new) (grown (joins_of joins) b.came b.places (drop c.args.first (rows_of levels c.args.number))))) same
     (subst (λ rs. OnOk c.go_on.result (IsGiven (c.args.number + 1) (rows_of levels) (rows_of new) rs)) grows_so.is
-      (on_ok c.go_on.result (λ is. given_set next a.came levels new c.args.number rows lt is) c.go_on.ensures.ok))
+    (on_ok c.go_on.result (λ is. given_set next a.came levels new c.args.number rows lt is) c.go_on.ensures.ok))
 
 pub returns-clause-err : goal.returns-clause-err
 returns-clause-err g c =
@@ -77,7 +77,7 @@ returns-clause-err g c =
     let lt : c.args.number < length levels = omega (arith, held.count, c.requires.number) in
     subst (λ (b : Arrivals). OnErr c.go_on.result (IsGivenPart (c.args.number + 1) (rows_of levels) (rows_of new) (grown (joins_of joins) b.came b.places (drop c.args.first (rows_of levels c.args.number))))) same
     (subst (λ rs. OnErr c.go_on.result (IsGivenPart (c.args.number + 1) (rows_of levels) (rows_of new) rs)) grows_so.is
-      (on_err c.go_on.result (λ is. (set_part joins next a.came a.places c.args.number levels new rows held lt c.stage-stage.ensures.next grows_so.widths grows_so.come is.0 is.1 is.2).0) c.go_on.ensures.err))
+    (on_err c.go_on.result (λ is. (set_part joins next a.came a.places c.args.number levels new rows held lt c.stage-stage.ensures.next grows_so.widths grows_so.come is.0 is.1 is.2).0) c.go_on.ensures.err))
 
 pub returns-clause-filed : goal.returns-clause-filed
 returns-clause-filed g c =
@@ -96,8 +96,8 @@ returns-clause-filed g c =
     let lt : c.args.number < length levels = omega (arith, held.count, c.requires.number) in
     subst (λ (b : Arrivals). AreFiled joins b.came b.places new) same
     (by_result c.go_on.result c.go_on.ensures.ok c.go_on.ensures.err
-      (λ is. filed_set joins next a.came a.places levels new c.args.number rows held lt c.stage-stage.ensures.next grows_so.widths grows_so.come is)
-      (λ is. (set_part joins next a.came a.places c.args.number levels new rows held lt c.stage-stage.ensures.next grows_so.widths grows_so.come is.0 is.1 is.2).1))
+    (λ is. filed_set joins next a.came a.places levels new c.args.number rows held lt c.stage-stage.ensures.next grows_so.widths grows_so.come is)
+    (λ is. (set_part joins next a.came a.places c.args.number levels new rows held lt c.stage-stage.ensures.next grows_so.widths grows_so.come is.0 is.1 is.2).1))
 
 pub returns-clause-stores : goal.returns-clause-stores
 returns-clause-stores g c =

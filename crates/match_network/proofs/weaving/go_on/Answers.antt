@@ -40,5 +40,5 @@ returns-clause-ok g c =
     back_set levels front back c.args.number c.grow.new.after c.split_at_mut-front.ensures.value c.split_at_mut-front.ensures.front_len
     ∙ ap (set levels c.args.number)
     (c.in_ok-grow.ensures.ok
-      ∙ ap (λ (l : LevelRows). with_rows stage.next.now came l (grown (only stage.join.now) came places (drop c.args.first c.rows-2.result.now.rows))) after
-      ∙ ap (λ rows. with_rows stage.next.now came (level_at levels c.args.number) (grown (only stage.join.now) came places (drop c.args.first rows))) before)
+    ∙ ap (λ (l : LevelRows). with_rows stage.next.now came l (grown (only stage.join.now) came places (drop c.args.first c.rows-2.result.now.rows))) after
+    ∙ ap (λ rows. with_rows stage.next.now came (level_at levels c.args.number) (grown (only stage.join.now) came places (drop c.args.first rows))) before)
