@@ -19,3 +19,5 @@ pub mod GivenLemmas
 pub mod WayLemmas
 -- what is filed as elements come and go
 pub mod FilingLemmas
+-- levels with no rows
+pub mod StartLemmas

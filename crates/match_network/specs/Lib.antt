@@ -18,3 +18,5 @@ pub mod Joining
 -- the levels of a rule
 pub mod Conditions
 pub mod FilingLaws
+-- what is tried and counted
+pub mod Tried

@@ -15,4 +15,4 @@ pub use arrivals::Arrivals;
 pub use filing::file_element;
 pub use level::Level;
 pub use rows::Rows;
-pub use weaving::{Conditions, weave};
+pub use weaving::{Conditions, new_levels, weave};

@@ -10,6 +10,8 @@ ghost use Rattle.match_network.specs.Filed.{IsFiled, IsStore, only, passes_at, w
 ghost use Rattle.match_network.specs.Joining.{IsCleaned, agrees, agrees_at, extended, taken, takes};
 ghost use Rattle.match_network.specs.Levels.{HaveCome};
 ghost use Rattle.match_network.specs.SoFar.{IsPart};
+ghost use Rattle.match_network.specs.Tried.{has_key, pairs_tried, places_tried, rows_tried, tries};
+ghost use Rattle.match_network.specs.Times.{times};
 ghost use Rattle.match_network.specs.Woven.{grown, joined, offered, with_place};
 
 use crate::row_view::RowView;
@@ -57,7 +59,8 @@ fn has_place(row: &[u32], place: u32) -> bool
 fn agrees_at<L: Ledger>(stage: &Stage<'_>, row: &[u32], place: u32, steps: &mut Steps<L>) -> bool
     requires come { HaveCome stage.now.arrivals.now.came row.now }
     requires place { place < length stage.now.arrivals.now.came }
-    ensures { result ≡ agrees_at stage.now.join.now stage.now.arrivals.now.came row.now place }
+    ensures answer { result ≡ agrees_at stage.now.join.now stage.now.arrivals.now.came row.now place }
+    ensures steps { steps.new ≡ steps.old + (if has_key stage.now.join.now stage.now.arrivals.now.came row.now place then 1 else 0) }
 {
     let element = stage.arrivals.at(place);
     agrees(
@@ -72,7 +75,8 @@ fn agrees_at<L: Ledger>(stage: &Stage<'_>, row: &[u32], place: u32, steps: &mut 
 fn takes<L: Ledger>(stage: &Stage<'_>, row: &[u32], place: u32, steps: &mut Steps<L>) -> bool
     requires come { HaveCome stage.now.arrivals.now.came row.now }
     requires place { place < length stage.now.arrivals.now.came }
-    ensures { result ≡ takes stage.now.join.now stage.now.arrivals.now.came place row.now }
+    ensures answer { result ≡ takes stage.now.join.now stage.now.arrivals.now.came place row.now }
+    ensures steps { steps.new ≡ steps.old + (if tries stage.now.join.now stage.now.arrivals.now.came place row.now then 1 else 0) }
 {
     !has_place(row, place) && agrees_at(stage, row, place, steps)
 }

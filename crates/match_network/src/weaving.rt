@@ -6,7 +6,7 @@ ghost use Rattle.join_tests.specs.declared.joins.Join.{Join};
 ghost use Rattle.match_network.specs.Conditions.{AreCleaned, AreFiled, AreStores, IsBegun, IsGiven, IsGivenPart, joins_of, level_at, rows_of};
 ghost use Rattle.match_network.specs.Filed.{IsFiled, IsStore, passes_at, LevelRows, only, with_rows};
 ghost use Rattle.match_network.specs.Joining.{IsCleaned, extended};
-ghost use Rattle.match_network.specs.Levels.{HaveCome, OnlyAdds};
+ghost use Rattle.match_network.specs.Levels.{AreLevels, HaveCome, OnlyAdds};
 ghost use Rattle.match_network.specs.SoFar.{IsPart};
 ghost use Rattle.match_network.specs.Woven.{grown, joined, made, with_place, woven};
 
@@ -16,6 +16,7 @@ use hash_buckets::Buckets;
 use join_tests::Join;
 use ops_text::OutOfMemory;
 use rule_base::Steps;
+use std::alloc::Global;
 use std::sync::ledger::Ledger;
 
 /// The positive condition elements of a rule, the numbers of the stores that have the elements that pass
@@ -213,4 +214,16 @@ pub fn weave<L: Ledger>(
         first = continue_at(conditions, number, first, stores, levels, steps)?;
     }
     Ok(())
+}
+
+/// Levels for condition elements with these joins, and no rows.
+pub fn new_levels(alloc: Global, joins: &[Join]) -> Result<Vec<Level>, OutOfMemory>
+    ensures filed { IfOk result (λ levels. AreFiled joins.now [] [] levels.items) }
+    ensures levels { IfOk result (λ levels. AreLevels (joins_of joins.now) [] [] (rows_of levels.items)) }
+{
+    let mut levels = Vec::new(alloc);
+    for number in 0..joins.len() {
+        levels.push(Level::new(alloc, number + 1))?;
+    }
+    Ok(levels)
 }

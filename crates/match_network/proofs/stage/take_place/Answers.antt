@@ -12,7 +12,7 @@ pub returns-then-not-takes-clause-ok : goal.returns-then-not-takes-clause-ok
 returns-then-not-takes-clause-ok g c =
     let stage = c.args.stage.now in
     let came = stage.arrivals.now.came in
-    let none = taken_one stage.join.now came c.args.place c.args.before.now.rows c.args.number c.row-row.result.now false c.row-row.ensures.row (sym c.takes.ensures ∙ c.if-not-takes.true) in
+    let none = taken_one stage.join.now came c.args.place c.args.before.now.rows c.args.number c.row-row.result.now false c.row-row.ensures.row (sym c.takes.ensures.answer ∙ c.if-not-takes.true) in
     sym (ap (with_rows stage.next.now came c.args.after.now) none ∙ with_rows-none stage.next.now came c.args.after.now)
 
 pub push-requires-clause-come : goal.push-requires-clause-come
@@ -25,5 +25,5 @@ pub returns-clause-ok : goal.returns-clause-ok
 returns-clause-ok g c =
     let stage = c.args.stage.now in
     let came = stage.arrivals.now.came in
-    let one = taken_one stage.join.now came c.args.place c.args.before.now.rows c.args.number c.row-row.result.now true c.row-row.ensures.row (sym c.takes.ensures ∙ c.if-not-takes.false) in
+    let one = taken_one stage.join.now came c.args.place c.args.before.now.rows c.args.number c.row-row.result.now true c.row-row.ensures.row (sym c.takes.ensures.answer ∙ c.if-not-takes.false) in
     subst (λ (rows : List (List ℕ)). OnOk c.push.result (c.push.new.self ≡ with_rows stage.next.now came c.args.after.now rows)) (sym one) c.push.ensures.ok
