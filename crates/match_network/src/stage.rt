@@ -6,7 +6,7 @@ ghost use Rattle.rule_base.specs.Numbers.{has_number};
 ghost use Rattle.rule_base.specs.Views.{element_in};
 ghost use Rattle.join_tests.specs.Joining.{same_key};
 ghost use Rattle.hash_buckets.specs.Buckets.{numbers_of};
-ghost use Rattle.match_network.specs.Filed.{IsFiled, IsStore, only, passes_at, with_rows};
+ghost use Rattle.match_network.specs.Filed.{IsFiled, IsStore, only, passes_at, row_at, with_rows};
 ghost use Rattle.match_network.specs.Joining.{IsCleaned, agrees, agrees_at, extended, taken, takes};
 ghost use Rattle.match_network.specs.Levels.{HaveCome};
 ghost use Rattle.match_network.specs.SoFar.{IsPart};
@@ -97,6 +97,7 @@ fn take_place<L: Ledger>(
     ensures ok { OnOk result (after.new ≡ with_rows stage.now.next.now stage.now.arrivals.now.came after.old
         (taken stage.now.join.now stage.now.arrivals.now.came place before.now.rows (number ∷ []))) }
     ensures err { OnErr result (after.new ≡ after.old) }
+    ensures steps { steps.new ≤ steps.old + times (tries stage.now.join.now stage.now.arrivals.now.came place) (map (row_at before.now.rows) (number ∷ [])) }
 {
     let row = before.row(number);
     if !takes(stage, row, place, steps) {
@@ -119,6 +120,7 @@ pub(crate) fn extend<L: Ledger>(
     ensures ok { OnOk result (after.new ≡ with_rows stage.now.next.now stage.now.arrivals.now.came after.old
         (extended stage.now.join.now stage.now.arrivals.now.came row.now (place ∷ []))) }
     ensures err { OnErr result (after.new ≡ after.old) }
+    ensures steps { steps.new ≤ steps.old + times (has_key stage.now.join.now stage.now.arrivals.now.came row.now) (place ∷ []) }
 {
     if !agrees_at(stage, row, place, steps) {
         return Ok(());
@@ -143,6 +145,7 @@ fn take_place_in<L: Ledger>(
         (taken stage.now.join.now stage.now.arrivals.now.came place before.now.rows (reverse (numbers_of before.now.entries hash)))) }
     ensures err { OnErr result (IsPart stage.now.next.now stage.now.arrivals.now.came after.old after.new
         (taken stage.now.join.now stage.now.arrivals.now.came place before.now.rows (reverse (numbers_of before.now.entries hash)))) }
+    ensures steps { steps.new ≤ steps.old + times (tries stage.now.join.now stage.now.arrivals.now.came place) (map (row_at before.now.rows) (reverse (numbers_of before.now.entries hash))) }
 {
     for number in before.bucket(hash) {
         take_place(stage, before, number, place, after, steps)?;
@@ -166,6 +169,7 @@ fn extend_by<L: Ledger>(
         (extended stage.now.join.now stage.now.arrivals.now.came row.now (reverse (numbers_of store.now.entries hash)))) }
     ensures err { OnErr result (IsPart stage.now.next.now stage.now.arrivals.now.came after.old after.new
         (extended stage.now.join.now stage.now.arrivals.now.came row.now (reverse (numbers_of store.now.entries hash)))) }
+    ensures steps { steps.new ≤ steps.old + times (has_key stage.now.join.now stage.now.arrivals.now.came row.now) (reverse (numbers_of store.now.entries hash)) }
 {
     for place in store.bucket(hash) {
         extend(stage, row, place, after, steps)?;

@@ -1,10 +1,13 @@
 -- One place more.
-use Rattle.std.proofs.Common.{◌≡◌, ℕ, ◌+◌, ◌<◌, ◌∷◌, [], ◌++◌, List, ap, length, reverse, subst, sym, ◌∙◌}
+use Rattle.std.proofs.Common.{◌≡◌, ℕ, ◌+◌, ◌<◌, ◌∷◌, [], ◌++◌, List, ap, arith, length, map, reverse, subst, sym, ◌∙◌}
 use Rattle.std.specs.List.{AllByRecursion}
 use Rattle.std.proofs.lemmas.Result.{err_from_is_err_and}
 use Rattle.hash_buckets.specs.Buckets.{numbers_of}
 use Rattle.match_network.specs.Filed.{LevelRows}
 use Rattle.match_network.specs.Joining.{extended}
+use Rattle.match_network.specs.Filed.{row_at}
+use Rattle.match_network.specs.Times.{times}
+use Rattle.match_network.specs.Tried.{has_key, tries}
 use Rattle.match_network.specs.SoFar.{IsPart, IsSoFar}
 use Rattle.match_network.proofs.SoFarLemmas.{Each-bucket, so_far_all, so_far_next, so_far_none, extended-cons}
 use Rattle.match_network.proofs.stage.extend_by.Goals as goal
@@ -19,6 +22,7 @@ loop-place-init g c =
       so_far = subst (λ (left : List ℕ). IsSoFar stage.next.now came c.args.after.now c.args.after.now (extended stage.join.now came c.args.row.now all) (extended stage.join.now came c.args.row.now left)) (sym whole) (so_far_none stage.next.now came c.args.after.now (extended stage.join.now came c.args.row.now all));
       within = subst (λ (left : List ℕ). AllByRecursion (λ n. n < length c.args.stage.now.arrivals.now.came) left) (sym whole) (Each-bucket (λ n. n < length c.args.stage.now.arrivals.now.came) c.args.store.now.entries c.args.hash c.requires.have_come);
       width = c.requires.width;
+      steps = omega (arith, ap (times (has_key stage.join.now came c.args.row.now)) whole);
     }
 
 pub extend-requires-clause-place : goal.extend-requires-clause-place
@@ -41,6 +45,7 @@ loop-place-preserved g c =
       so_far = so_far_next stage.next.now came c.args.after.now l.after c.extend.new.after (extended stage.join.now came c.args.row.now all) (extended stage.join.now came c.args.row.now (c.in-Some.place ∷ [])) (extended stage.join.now came c.args.row.now left) before c.in_ok-extend.ensures.ok;
       within = (subst (λ (rest : List ℕ). AllByRecursion (λ n. n < length c.args.stage.now.arrivals.now.came) rest) c.in-Some.ensures.steps l.invariant.within).1;
       width = l.invariant.width ∙ sym (ap (λ (level : LevelRows). level.width) c.in_ok-extend.ensures.ok);
+      steps = omega (arith, ap (times (has_key stage.join.now came c.args.row.now)) c.in-Some.ensures.steps, c.in_ok-extend.ensures.steps, l.invariant.steps);
     }
 
 pub returns-in_err-extend-clause-err : goal.returns-in_err-extend-clause-err

@@ -1,10 +1,13 @@
 -- One number more.
-use Rattle.std.proofs.Common.{◌≡◌, ℕ, ◌+◌, ◌<◌, ◌∷◌, [], ◌++◌, List, ap, length, reverse, subst, sym, ◌∙◌}
+use Rattle.std.proofs.Common.{◌≡◌, ℕ, ◌+◌, ◌<◌, ◌∷◌, [], ◌++◌, List, ap, arith, length, map, reverse, subst, sym, ◌∙◌}
 use Rattle.std.specs.List.{AllByRecursion}
 use Rattle.std.proofs.lemmas.Result.{err_from_is_err_and}
 use Rattle.hash_buckets.specs.Buckets.{numbers_of}
 use Rattle.match_network.specs.Filed.{LevelRows}
 use Rattle.match_network.specs.Joining.{taken}
+use Rattle.match_network.specs.Filed.{row_at}
+use Rattle.match_network.specs.Times.{times}
+use Rattle.match_network.specs.Tried.{has_key, tries}
 use Rattle.match_network.specs.SoFar.{IsPart, IsSoFar}
 use Rattle.match_network.proofs.SoFarLemmas.{Each-bucket, so_far_all, so_far_next, so_far_none, taken-cons}
 use Rattle.match_network.proofs.stage.take_place_in.Goals as goal
@@ -19,6 +22,7 @@ loop-number-init g c =
       so_far = subst (λ (left : List ℕ). IsSoFar stage.next.now came c.args.after.now c.args.after.now (taken stage.join.now came c.args.place c.args.before.now.rows all) (taken stage.join.now came c.args.place c.args.before.now.rows left)) (sym whole) (so_far_none stage.next.now came c.args.after.now (taken stage.join.now came c.args.place c.args.before.now.rows all));
       within = subst (λ (left : List ℕ). AllByRecursion (λ n. n < length c.args.before.now.rows) left) (sym whole) (Each-bucket (λ n. n < length c.args.before.now.rows) c.args.before.now.entries c.args.hash c.requires.numbered);
       width = c.requires.width;
+      steps = omega (arith, ap (λ (left : List ℕ). times (tries stage.join.now came c.args.place) (map (row_at c.args.before.now.rows) left)) whole);
     }
 
 pub take_place-requires-clause-number : goal.take_place-requires-clause-number
@@ -41,6 +45,7 @@ loop-number-preserved g c =
       so_far = so_far_next stage.next.now came c.args.after.now l.after c.take_place.new.after (taken stage.join.now came c.args.place c.args.before.now.rows all) (taken stage.join.now came c.args.place c.args.before.now.rows (c.in-Some.number ∷ [])) (taken stage.join.now came c.args.place c.args.before.now.rows left) before c.in_ok-take_place.ensures.ok;
       within = (subst (λ (rest : List ℕ). AllByRecursion (λ n. n < length c.args.before.now.rows) rest) c.in-Some.ensures.steps l.invariant.within).1;
       width = l.invariant.width ∙ sym (ap (λ (level : LevelRows). level.width) c.in_ok-take_place.ensures.ok);
+      steps = omega (arith, ap (λ (left : List ℕ). times (tries stage.join.now came c.args.place) (map (row_at c.args.before.now.rows) left)) c.in-Some.ensures.steps, c.in_ok-take_place.ensures.steps, l.invariant.steps);
     }
 
 pub returns-in_err-take_place-clause-err : goal.returns-in_err-take_place-clause-err
