@@ -95,7 +95,7 @@ same_keys (part ∷ key) es e same =
     ap (λ v. v ∷ key_of_row key es) (sym (same_value-equal (value_at e part.attribute) (value_in es part.source) parts.0))
     ∙ ap (λ vs. value_at e part.attribute ∷ vs) (same_keys key es e parts.1)
 
-same_hash : (key : List KeyPart) (es : List Element) (e : Element) → same_key key es e ≡ true → (hash_of (key_of_row key es) == hash_of (key_of_element key e)) ≡ true
+pub same_hash : (key : List KeyPart) (es : List Element) (e : Element) → same_key key es e ≡ true → (hash_of (key_of_row key es) == hash_of (key_of_element key e)) ≡ true
 same_hash key es e same = eq-eqb (hash_of (key_of_row key es)) (hash_of (key_of_element key e)) (ap hash_of (same_keys key es e same))
 
 -- so all rows that take a place are found
@@ -141,6 +141,12 @@ takes_found join came places place row (Some e) passed =
     ap (λ b. (is_living places row && not (has_number row place)) && ((b && same_key join.key es e) && tests_hold join.tests es e)) passed
     ∙ keep_step (is_living places row) (has_number row place) (same_key join.key es e) (tests_hold join.tests es e) (row_hash join came row == hash_of (key_of_element join.key e)) (same_hash join.key es e)
 
+pub found_level : (join : Join) (next : List Join) (came : List Element) (places : List ℕ) (hash : ℕ) (level : LevelRows) → IsFiled (join ∷ next) came places level → map (row_at level.rows) (numbers_of (filter (stays hash (row_lives places level.rows)) level.entries) hash) ≡ filter (λ row. is_living places row && (row_hash join came row == hash)) level.rows
+found_level join next came places hash level held =
+    ap (map (row_at level.rows)) (cleaned_bucket (row_lives places level.rows) level.entries hash)
+    ∙ ap (λ es. map (row_at level.rows) (numbers_of es hash)) held.living
+    ∙ found_rows join came places level.rows hash 0 level.rows refl
+
 pub taken_found : (join : Join) (next : List Join) (came : List Element) (places : List ℕ) (place : ℕ) (level : LevelRows) → IsFiled (join ∷ next) came places level → passes_at join came place ≡ true → taken join came place level.rows (reverse (numbers_of (filter (stays (hash_at join came place) (row_lives places level.rows)) level.entries) (hash_at join came place))) ≡ map (with_place place) (joined (only join) came places place level.rows)
 taken_found join next came places place level held passed =
     let hash = hash_at join came place in
@@ -149,7 +155,7 @@ taken_found join next came places place level held passed =
     let mid : List ℕ → Bool = λ row. is_living places row && (row_hash join came row == hash) in
     let keep : List ℕ → Bool = λ row. (is_living places row && not (has_number row place)) && extends (only join) came row place in
     let found : map (row_at rows) (numbers_of (filter (stays hash lives) level.entries) hash) ≡ filter mid rows =
-    ap (map (row_at rows)) (cleaned_bucket lives level.entries hash) ∙ ap (λ es. map (row_at rows) (numbers_of es hash)) held.living ∙ found_rows join came places rows hash 0 rows refl in
+    found_level join next came places hash level held in
     ap (map (with_place place))
     (ap (filter (takes join came place)) (map-reverse (row_at rows) (numbers_of (filter (stays hash lives) level.entries) hash))
     ∙ filter-reverse (takes join came place) (map (row_at rows) (numbers_of (filter (stays hash lives) level.entries) hash))
@@ -185,7 +191,7 @@ offer_step false false true false is = refl
 offer_step false false false true is = refl
 offer_step false false false false is = refl
 
-turned : (a b : ℕ) → (a == b) ≡ true → (b == a) ≡ true
+pub turned : (a b : ℕ) → (a == b) ≡ true → (b == a) ≡ true
 turned a b same = eq-eqb b a (sym (eqb-true a b same))
 
 offered_found : (join : Join) (came : List Element) (row : List ℕ) (found : Option Element) → some_passes (λ e. (passes join.pattern e && same_key join.key (elements_of came row) e) && tests_hold join.tests (elements_of came row) e) found
@@ -195,16 +201,20 @@ offered_found join came row (Some e) =
     let es = elements_of came row in
     offer_step (passes join.pattern e) (same_key join.key es e) (tests_hold join.tests es e) (hash_of (key_of_element join.key e) == row_hash join came row) (λ same. turned (row_hash join came row) (hash_of (key_of_element join.key e)) (same_hash join.key es e same))
 
+pub found_store : (join : Join) (came : List Element) (places : List ℕ) (hash : ℕ) (entries : List (ℕ × ℕ)) → IsStore join came places entries → numbers_of (filter (stays hash (has_number places)) entries) hash ≡ filter (λ p. (hash_at join came p == hash) && passes_at join came p) places
+found_store join came places hash entries held =
+    let hit : ℕ → Bool = λ p. hash_at join came p == hash in
+    let mid : ℕ → Bool = λ p. hit p && passes_at join came p in
+    cleaned_bucket (has_number places) entries hash ∙ ap (λ es. numbers_of es hash) held.living ∙ found_places join came hash (filter (passes_at join came) places)
+    ∙ sym (filter-both hit (passes_at join came) mid places (Each-always (λ p. mid p ≡ (hit p && passes_at join came p)) (λ p. refl) places))
+
 pub extended_found : (join : Join) (came : List Element) (places row : List ℕ) (entries : List (ℕ × ℕ)) → IsStore join came places entries → extended join came row (reverse (numbers_of (filter (stays (row_hash join came row) (has_number places)) entries) (row_hash join came row))) ≡ map (λ p. with_place p row) (offered (only join) came places row)
 extended_found join came places row entries held =
     let hash = row_hash join came row in
-    let passing = filter (passes_at join came) places in
     let hit : ℕ → Bool = λ p. hash_at join came p == hash in
     let mid : ℕ → Bool = λ p. hit p && passes_at join came p in
     let goes : ℕ → Bool = extends (only join) came row in
-    let found : numbers_of (filter (stays hash (has_number places)) entries) hash ≡ filter mid places =
-    cleaned_bucket (has_number places) entries hash ∙ ap (λ es. numbers_of es hash) held.living ∙ found_places join came hash passing
-    ∙ sym (filter-both hit (passes_at join came) mid places (Each-always (λ p. mid p ≡ (hit p && passes_at join came p)) (λ p. refl) places)) in
+    let found : numbers_of (filter (stays hash (has_number places)) entries) hash ≡ filter mid places = found_store join came places hash entries held in
     ap (map (λ p. with_place p row))
     (filter-reverse (agrees_at join came row) (numbers_of (filter (stays hash (has_number places)) entries) hash)
     ∙ ap (λ ps. reverse (filter (agrees_at join came row) ps)) found

@@ -21,3 +21,4 @@ pub mod WayLemmas
 pub mod FilingLemmas
 -- levels with no rows
 pub mod StartLemmas
+pub mod TriedLemmas

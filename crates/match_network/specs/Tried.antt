@@ -31,3 +31,13 @@ places_tried join came places row = times (λ p. passes_at join came p && has_ke
 abbrev pub pairs_tried : Join → List Element → List ℕ → List (List ℕ) → ℕ
 pairs_tried join came places [] = 0
 pairs_tried join came places (row ∷ rows) = places_tried join came places row + pairs_tried join came places rows
+
+-- a count for the condition element with a number, and 0 if there is none
+abbrev pub at_number : List Join → ℕ → (Join → ℕ) → ℕ
+at_number all number count = option_map_or count (slice_get all number) 0
+
+-- all that is tried where a place is woven in at a condition element, up to so many levels past its own
+abbrev pub woven_tried : List Join → List Element → List ℕ → ℕ → ℕ → List (List ℕ) → ℕ → ℕ
+woven_tried all came places place at rows zero = at_number all at (λ join. rows_tried join came places place rows)
+woven_tried all came places place at rows (suc further) =
+    woven_tried all came places place at rows further + at_number all (at + further + 1) (λ join. pairs_tried join came places (made (joins_of all) came places place rows further))

@@ -196,6 +196,7 @@ pub(crate) fn join_place<L: Ledger>(
         (map (with_place place) (joined (only stage.now.join.now) stage.now.arrivals.now.came stage.now.arrivals.now.places place before.old.rows))) }
     ensures rows { (before.new.rows ≡ before.old.rows) × (before.new.width ≡ before.old.width) }
     ensures filed { IsFiled (stage.now.join.now ∷ stage.now.next.now) stage.now.arrivals.now.came stage.now.arrivals.now.places before.new }
+    ensures steps { steps.new ≤ steps.old + rows_tried stage.now.join.now stage.now.arrivals.now.came stage.now.arrivals.now.places place before.old.rows }
 {
     let element = stage.arrivals.at(place);
     let hash = element_hash(stage.join.key.as_slice(), element);
@@ -220,6 +221,7 @@ fn extend_row<L: Ledger>(
     ensures err { OnErr result (IsPart stage.now.next.now stage.now.arrivals.now.came after.old after.new
         (map (λ p. with_place p row.now) (offered (only stage.now.join.now) stage.now.arrivals.now.came stage.now.arrivals.now.places row.now))) }
     ensures store { IsCleaned stage.now.arrivals.now.places store.old.entries store.new.entries }
+    ensures steps { steps.new ≤ steps.old + places_tried stage.now.join.now stage.now.arrivals.now.came stage.now.arrivals.now.places row.now }
 {
     let hash = row_hash(
         stage.join.key.as_slice(),
@@ -248,6 +250,7 @@ pub(crate) fn grow<L: Ledger>(
     ensures err { OnErr result (IsPart stage.now.next.now stage.now.arrivals.now.came after.old after.new
         (grown (only stage.now.join.now) stage.now.arrivals.now.came stage.now.arrivals.now.places (drop first from.now.rows))) }
     ensures store { IsCleaned stage.now.arrivals.now.places store.old.entries store.new.entries }
+    ensures steps { steps.new ≤ steps.old + pairs_tried stage.now.join.now stage.now.arrivals.now.came stage.now.arrivals.now.places (drop first from.now.rows) }
 {
     for number in first..from.len() {
         extend_row(stage, from.at(number), store, after, steps)?;

@@ -8,6 +8,8 @@ ghost use Rattle.match_network.specs.Filed.{IsFiled, IsStore, passes_at, LevelRo
 ghost use Rattle.match_network.specs.Joining.{IsCleaned, extended};
 ghost use Rattle.match_network.specs.Levels.{AreLevels, HaveCome, OnlyAdds};
 ghost use Rattle.match_network.specs.SoFar.{IsPart};
+ghost use Rattle.match_network.specs.Times.{times};
+ghost use Rattle.match_network.specs.Tried.{at_number, has_key, pairs_tried, rows_tried, woven_tried};
 ghost use Rattle.match_network.specs.Woven.{grown, joined, made, with_place, woven};
 
 use crate::stage::{Stage, extend, grow, join_place};
@@ -59,6 +61,7 @@ fn begin_alone<L: Ledger>(
     ensures ok { OnOk result (levels.new ≡ slice_set levels.old 0 (with_rows stage.now.next.now stage.now.arrivals.now.came (level_at levels.old 0)
         (extended stage.now.join.now stage.now.arrivals.now.came [] (place ∷ [])))) }
     ensures err { OnErr result (levels.new ≡ levels.old) }
+    ensures steps { steps.new ≤ steps.old + times (has_key stage.now.join.now stage.now.arrivals.now.came []) (place ∷ []) }
 {
     let after = &mut levels[0];
     let count = after.rows().len();
@@ -88,6 +91,7 @@ fn begin_joined<L: Ledger>(
     ensures err { OnErr result ((level : LevelRows) × IsBegun (stage.now.join.now ∷ stage.now.next.now) stage.now.arrivals.now.came stage.now.arrivals.now.places number levels.old levels.new level
         × IsPart stage.now.next.now stage.now.arrivals.now.came (level_at levels.old number) level
         (map (with_place place) (joined (only stage.now.join.now) stage.now.arrivals.now.came stage.now.arrivals.now.places place (level_at levels.old (number - 1)).rows))) }
+    ensures steps { steps.new ≤ steps.old + rows_tried stage.now.join.now stage.now.arrivals.now.came stage.now.arrivals.now.places place (level_at levels.old (number - 1)).rows }
 {
     let (front, back) = levels.split_at_mut(number);
     let before = &mut front[number - 1];
@@ -119,6 +123,7 @@ fn go_on<L: Ledger>(
     ensures err { OnErr result ((level : LevelRows) × (levels.new ≡ slice_set levels.old number level) × IsPart stage.now.next.now stage.now.arrivals.now.came (level_at levels.old number) level
         (grown (only stage.now.join.now) stage.now.arrivals.now.came stage.now.arrivals.now.places (drop first (level_at levels.old (number - 1)).rows))) }
     ensures store { IsCleaned stage.now.arrivals.now.places store.old.entries store.new.entries }
+    ensures steps { steps.new ≤ steps.old + pairs_tried stage.now.join.now stage.now.arrivals.now.came stage.now.arrivals.now.places (drop first (level_at levels.old (number - 1)).rows) }
 {
     let (front, back) = levels.split_at_mut(number);
     let from = &front[number - 1];
@@ -146,6 +151,7 @@ fn begin<L: Ledger>(
     ensures err { OnErr result (IsGivenPart (at + 1) (rows_of levels.old) (rows_of levels.new)
         (made (joins_of conditions.now.joins.now) conditions.now.arrivals.now.came conditions.now.arrivals.now.places place (rows_of levels.old at) 0)) }
     ensures filed { AreFiled conditions.now.joins.now conditions.now.arrivals.now.came conditions.now.arrivals.now.places levels.new }
+    ensures steps { steps.new ≤ steps.old + at_number conditions.now.joins.now at (λ join. rows_tried join conditions.now.arrivals.now.came conditions.now.arrivals.now.places place (rows_of levels.old at)) }
 {
     let stage = conditions.stage(at);
     if at == 0 {
@@ -178,6 +184,7 @@ fn continue_at<L: Ledger>(
         (grown (joins_of conditions.now.joins.now) conditions.now.arrivals.now.came conditions.now.arrivals.now.places (drop first (rows_of levels.old number)))) }
     ensures filed { AreFiled conditions.now.joins.now conditions.now.arrivals.now.came conditions.now.arrivals.now.places levels.new }
     ensures stores { AreCleaned conditions.now.arrivals.now.places stores.old stores.new }
+    ensures steps { steps.new ≤ steps.old + at_number conditions.now.joins.now number (λ join. pairs_tried join conditions.now.arrivals.now.came conditions.now.arrivals.now.places (drop first (rows_of levels.old number))) }
 {
     let stage = conditions.stage(number);
     let store = &mut stores[conditions.stores[number]];
@@ -208,6 +215,10 @@ pub fn weave<L: Ledger>(
     ensures adds { OnlyAdds conditions.now.arrivals.now.came place (rows_of levels.old) (rows_of levels.new) }
     ensures filed { AreFiled conditions.now.joins.now conditions.now.arrivals.now.came conditions.now.arrivals.now.places levels.new }
     ensures stores { AreCleaned conditions.now.arrivals.now.places stores.old stores.new }
+
+    // It counts a step for each pair of a row and an element that agree in the key.
+    ensures steps { steps.new ≤ steps.old + woven_tried conditions.now.joins.now conditions.now.arrivals.now.came conditions.now.arrivals.now.places place at
+        (rows_of levels.old at) (length conditions.now.joins.now - (at + 1)) }
 {
     let mut first = begin(conditions, at, place, levels, steps)?;
     for number in at + 1..conditions.joins.len() {

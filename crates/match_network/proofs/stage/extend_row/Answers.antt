@@ -1,5 +1,5 @@
 -- All that has the key is in the bucket.
-use Rattle.std.proofs.Common.{◌≡◌, ℕ, ◌+◌, ◌<◌, ◌∷◌, [], ◌++◌, List, ap, arith, drop, length, map, reverse, rules, subst, sym, ◌∙◌, Some, slice_get}
+use Rattle.std.proofs.Common.{◌≡◌, ℕ, ◌+◌, ◌<◌, ◌≤◌, ◌∷◌, [], ◌++◌, List, ap, arith, drop, length, map, reverse, rules, subst, sym, ◌∙◌, Some, slice_get}
 use Rattle.std.specs.List.{AllByRecursion}
 use Rattle.std.specs.Result.{OnErr, OnOk}
 use Rattle.rule_base.specs.Numbers.{has_number}
@@ -13,6 +13,7 @@ use Rattle.match_network.specs.Levels.{HaveCome}
 use Rattle.match_network.specs.SoFar.{IsPart, IsSoFar}
 use Rattle.match_network.specs.Woven.{grown, joined, offered, with_place}
 use Rattle.match_network.proofs.FiledLemmas.{IsCleaned-stays, IsStore-cleaned, extended_in}
+use Rattle.match_network.proofs.TriedLemmas.{places_tried_in}
 use Rattle.match_network.proofs.stage.extend_row.Goals as goal
 
 pub extend_by-requires-clause-have_come : goal.extend_by-requires-clause-have_come
@@ -43,3 +44,12 @@ returns-clause-err g c =
 
 pub returns-clause-store : goal.returns-clause-store
 returns-clause-store g c = IsCleaned-stays c.args.stage.now.arrivals.now.places c.args.store.now.entries c.clean.new.self.entries c.row_hash-hash.result c.clean.ensures.entries
+
+pub returns-clause-steps : goal.returns-clause-steps
+returns-clause-steps g c =
+    let stage = c.args.stage.now in
+    let came = stage.arrivals.now.came in
+    let places = stage.arrivals.now.places in
+    let hash : c.row_hash-hash.result ≡ row_hash stage.join.now came c.args.row.now = search rules in
+    let count = places_tried_in stage.join.now came places c.args.row.now c.row_hash-hash.result c.args.store.now.entries c.clean.new.self.entries c.requires.store hash c.clean.ensures.entries in
+    subst (λ n. c.extend_by.new.steps ≤ c.args.steps.now + n) count c.extend_by.ensures.steps

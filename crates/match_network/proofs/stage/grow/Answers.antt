@@ -8,6 +8,7 @@ use Rattle.match_network.specs.SoFar.{IsPart, IsSoFar}
 use Rattle.match_network.specs.Woven.{grown, offered, with_place}
 use Rattle.match_network.proofs.FiledLemmas.{IsCleaned-more, IsCleaned-none, IsStore-cleaned}
 use Rattle.match_network.proofs.SoFarLemmas.{grown-end, grown-from, so_far_all, so_far_more, so_far_next, so_far_none}
+use Rattle.match_network.proofs.TriedLemmas.{pairs_tried-from}
 use Rattle.match_network.proofs.stage.grow.Goals as goal
 
 pub loop-number-init : goal.loop-number-init
@@ -17,6 +18,7 @@ loop-number-init g c =
       so_far = so_far_none stage.next.now stage.arrivals.now.came c.args.after.now (grown (only stage.join.now) stage.arrivals.now.came stage.arrivals.now.places (drop c.args.first c.args.from.now.rows));
       store = IsCleaned-none stage.arrivals.now.places c.args.store.now.entries;
       width = c.requires.width;
+      steps = omega arith;
     }
 
 pub extend_row-requires-clause-store : goal.extend_row-requires-clause-store
@@ -65,6 +67,7 @@ loop-number-preserved g c =
       so_far = so_far_next stage.next.now came c.args.after.now l.after c.extend_row.new.after all first left before c.in_ok-extend_row.ensures.ok;
       store = IsCleaned-more places c.args.store.now.entries l.store.entries c.extend_row.new.store.entries l.invariant.store c.in_ok-extend_row.ensures.store;
       width = l.invariant.width ∙ sym (ap (λ (level : LevelRows). level.width) c.in_ok-extend_row.ensures.ok);
+      steps = omega (arith, pairs_tried-from stage.join.now came places rows l.number c.at.result.now c.at.ensures.row, c.in_ok-extend_row.ensures.steps, l.invariant.steps);
     }
 
 pub returns-clause-ok : goal.returns-clause-ok
@@ -78,3 +81,9 @@ returns-clause-ok g c =
     so_far_all stage.next.now came c.args.after.now l.after all
     (subst (λ (rs : List (List ℕ)). IsSoFar stage.next.now came c.args.after.now l.after all rs)
     (grown-end (only stage.join.now) came places rows l.number (let past : length rows ≤ l.number = omega (arith, c.len-number-end.ensures.value, c.loop-number-test.false) in past)) l.invariant.so_far)
+
+pub returns-in_err-extend_row-clause-steps : goal.returns-in_err-extend_row-clause-steps
+returns-in_err-extend_row-clause-steps g c =
+    let stage = c.args.stage.now in
+    let l = c.loop-number in
+    omega (arith, pairs_tried-from stage.join.now stage.arrivals.now.came stage.arrivals.now.places c.args.from.now.rows l.number c.at.result.now c.at.ensures.row, c.in_err-extend_row.ensures.steps, l.invariant.steps)

@@ -1,5 +1,5 @@
 -- All that has the key is in the bucket.
-use Rattle.std.proofs.Common.{◌≡◌, ℕ, ◌+◌, ◌<◌, ◌∷◌, [], ◌++◌, List, ap, arith, drop, length, map, reverse, rules, subst, sym, ◌∙◌, Some, slice_get}
+use Rattle.std.proofs.Common.{◌≡◌, ℕ, ◌+◌, ◌<◌, ◌≤◌, ◌∷◌, [], ◌++◌, List, ap, arith, drop, length, map, reverse, rules, subst, sym, ◌∙◌, Some, slice_get}
 use Rattle.std.specs.List.{AllByRecursion}
 use Rattle.std.specs.Result.{OnErr, OnOk}
 use Rattle.rule_base.specs.Numbers.{has_number}
@@ -13,6 +13,7 @@ use Rattle.match_network.specs.Levels.{HaveCome}
 use Rattle.match_network.specs.SoFar.{IsPart, IsSoFar}
 use Rattle.match_network.specs.Woven.{grown, joined, offered, with_place}
 use Rattle.match_network.proofs.FiledLemmas.{IsFiled-cleaned, hash_at-is, passed_came, taken_in}
+use Rattle.match_network.proofs.TriedLemmas.{rows_tried_in}
 use Rattle.match_network.proofs.stage.join_place.Goals as goal
 
 pub take_place_in-requires-clause-numbered : goal.take_place_in-requires-clause-numbered
@@ -49,3 +50,13 @@ pub returns-clause-filed : goal.returns-clause-filed
 returns-clause-filed g c =
     let stage = c.args.stage.now in
     IsFiled-cleaned (stage.join.now ∷ stage.next.now) stage.arrivals.now.came stage.arrivals.now.places c.args.before.now c.clean.new.self c.element_hash-hash.result c.requires.filed c.clean.ensures.rows c.clean.ensures.entries
+
+pub returns-clause-steps : goal.returns-clause-steps
+returns-clause-steps g c =
+    let stage = c.args.stage.now in
+    let came = stage.arrivals.now.came in
+    let places = stage.arrivals.now.places in
+    let e = element_in c.at-element.result in
+    let hash : c.element_hash-hash.result ≡ hash_of (key_of_element stage.join.now.key e) = search rules in
+    let count = rows_tried_in stage.join.now stage.next.now came places c.args.place c.element_hash-hash.result c.args.before.now c.clean.new.self c.requires.filed (hash ∙ hash_at-is stage.join.now came c.args.place e c.at-element.ensures) c.clean.ensures.rows c.clean.ensures.entries in
+    subst (λ n. c.take_place_in.new.steps ≤ c.args.steps.now + n) count c.take_place_in.ensures.steps
