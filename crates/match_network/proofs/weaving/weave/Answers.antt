@@ -1,10 +1,12 @@
 -- From level to level.
-use Rattle.std.proofs.Common.{◌≡◌, ℕ, ◌≤◌, ◌<◌, List, arith, length}
+use Rattle.std.proofs.Common.{◌≡◌, ℕ, ◌+◌, ◌-◌, ◌≤◌, ◌<◌, List, ap, arith, drop, length}
 use Rattle.match_network.specs.Conditions.{entries_at, joins_of, rows_of}
 use Rattle.match_network.proofs.ComeLemmas.{some_at}
 use Rattle.match_network.proofs.FiledLemmas.{IsCleaned-none, passed_came}
 use Rattle.match_network.proofs.GivenLemmas.{rows_come, rows_widths}
 use Rattle.match_network.proofs.WayLemmas.{AreCleaned-more, AreStores-cleaned, stopped_at_once, stopped_later, way_adds, way_begins, way_ends, way_goes_on}
+use Rattle.match_network.specs.Tried.{at_number, pairs_tried, woven_tried}
+use Rattle.match_network.proofs.TriedLemmas.{tried_more, tried_within}
 use Rattle.match_network.proofs.weaving.weave.Goals as goal
 
 pub returns-in_err-first-clause-adds : goal.returns-in_err-first-clause-adds
@@ -36,6 +38,7 @@ loop-number-init g c =
       way = way_begins (joins_of all) came places c.args.place c.args.at (rows_of levels) (rows_of c.begin.new.levels) c.in_ok-first.first c.in_ok-first.ensures.ok c.in_ok-first.ensures.count;
       filed = c.in_ok-first.ensures.filed;
       cleaned = λ number. IsCleaned-none places (entries_at c.args.stores.now number);
+      steps = omega (arith, c.in_ok-first.ensures.steps, ap (woven_tried all came places c.args.place c.args.at (rows_of levels c.args.at)) (let none : 0 ≡ c.args.at + 1 - (c.args.at + 1) = omega arith in none));
     }
 
 pub continue_at-requires-clause-stores : goal.continue_at-requires-clause-stores
@@ -75,6 +78,7 @@ loop-number-preserved g c =
       way = way_goes_on (joins_of all) came places c.args.place c.args.at (rows_of levels) (rows_of l.levels) (rows_of c.continue_at.new.levels) l.number l.first c.in_ok-first-2.first l.invariant.way c.in_ok-first-2.ensures.ok c.in_ok-first-2.ensures.count;
       filed = c.in_ok-first-2.ensures.filed;
       cleaned = AreCleaned-more places c.args.stores.now l.stores c.continue_at.new.stores l.invariant.cleaned c.in_ok-first-2.ensures.stores;
+      steps = omega (arith, l.invariant.steps, c.in_ok-first-2.ensures.steps, tried_more all came places c.args.place c.args.at (rows_of levels c.args.at) (drop l.first (rows_of l.levels l.number)) l.number l.invariant.way.past l.invariant.way.last);
     }
 
 pub returns-clause-ok : goal.returns-clause-ok
@@ -104,3 +108,37 @@ returns-clause-adds g c =
     let come = rows_come all came places c.args.at levels c.requires.filed (let le : c.args.at ≤ length all = omega (arith, c.requires.at) in le) in
     let l = c.loop-number in
     way_adds all came places c.args.place c.args.at (rows_of levels) (rows_of l.levels) l.number l.first lt c.requires.below come l.invariant.way
+
+pub returns-in_err-first-clause-steps : goal.returns-in_err-first-clause-steps
+returns-in_err-first-clause-steps g c =
+    let conditions = c.args.conditions.now in
+    let all = conditions.joins.now in
+    omega (arith, c.in_err-first.ensures.steps, tried_within all conditions.arrivals.now.came conditions.arrivals.now.places c.args.place c.args.at (rows_of c.args.levels.now c.args.at) 0 (length all - (c.args.at + 1)) (omega arith))
+
+pub returns-in_err-first-2-clause-steps : goal.returns-in_err-first-2-clause-steps
+returns-in_err-first-2-clause-steps g c =
+    let conditions = c.args.conditions.now in
+    let all = conditions.joins.now in
+    let came = conditions.arrivals.now.came in
+    let places = conditions.arrivals.now.places in
+    let rows = rows_of c.args.levels.now c.args.at in
+    let l = c.loop-number in
+    omega (
+      arith,
+      l.invariant.steps,
+      c.in_err-first-2.ensures.steps,
+      tried_more all came places c.args.place c.args.at rows (drop l.first (rows_of l.levels l.number)) l.number l.invariant.way.past l.invariant.way.last,
+      tried_within all came places c.args.place c.args.at rows (l.number + 1 - (c.args.at + 1)) (length all - (c.args.at + 1)) (omega (arith, c.loop-number-test.true)),
+    )
+
+pub returns-clause-steps : goal.returns-clause-steps
+returns-clause-steps g c =
+    let conditions = c.args.conditions.now in
+    let all = conditions.joins.now in
+    let l = c.loop-number in
+    omega (
+      arith,
+      l.invariant.steps,
+      ap (woven_tried all conditions.arrivals.now.came conditions.arrivals.now.places c.args.place c.args.at (rows_of c.args.levels.now c.args.at))
+        (let end : l.number - (c.args.at + 1) ≡ length all - (c.args.at + 1) = omega (arith, c.loop-number-test.false, l.auto.number-end, c.requires.at) in end),
+    )
