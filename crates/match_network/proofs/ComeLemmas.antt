@@ -1,11 +1,10 @@
 -- Rows of elements that came: one more element that comes changes nothing in them.
-use Rattle.std.proofs.Common.{◌≡◌, ℕ, ◌+◌, ◌<◌, ◌≤◌, ◌==◌, List, [], ◌∷◌, ◌++◌, Bool, true, false, not, cond, ◌&&◌, ◌||◌, eqb, length, map, reverse, zero, suc, refl, ap, sym, ◌∙◌, arith, inl, inr, subst, length-append, Option, Some, None, slice_get, get_or, option_and_then}
-use Rattle.std.specs.List.{AllByRecursion, cons_option, filter, filter_map, flat_map, list_all, list_any}
-use Rattle.std.proofs.lemmas.Bool.{and_parts, eqb-true, or_cases}
-use Rattle.std.proofs.lemmas.Bool.Decides.{nat_tests}
+use Rattle.std.proofs.Common.{◌≡◌, ℕ, ◌<◌, ◌≤◌, ◌==◌, List, [], ◌∷◌, ◌++◌, Bool, true, false, not, ◌&&◌, ◌||◌, length, map, reverse, zero, suc, refl, ap, sym, ◌∙◌, arith, subst, length-append, Some, None, slice_get, get_or, option_and_then}
+use Rattle.std.specs.List.{AllByRecursion, cons_option, filter}
+use Rattle.std.proofs.lemmas.Bool.{and_parts, eqb-true}
 use Rattle.std.proofs.lemmas.List.{reverse-append}
 use Rattle.rule_base.specs.declared.element.Element.{Element}
-use Rattle.rule_base.specs.Numbers.{has_number, same_numbers}
+use Rattle.rule_base.specs.Numbers.{has_number}
 use Rattle.rule_base.proofs.EachLemmas.{Each-append, Each-filter, Each-flat_map, Each-map, Each-weaker}
 use Rattle.match_network.specs.Levels.{HaveCome}
 use Rattle.match_network.specs.Row.{Joins, elements_of, extends, is_living, is_match, joins_after, some_passes}

@@ -1,7 +1,7 @@
 -- The levels of a rule: each by its number, in parts and after a change.
-use Rattle.std.proofs.Common.{◌≡◌, ◌≢◌, ℕ, ◌+◌, ◌-◌, ◌<◌, ◌≤◌, ◌==◌, List, [], ◌∷◌, ◌++◌, Bool, true, false, cond, length, get_or, set, zero, suc, refl, ap, sym, ◌∙◌, arith, length-append, inl, inr}
-use Rattle.std.proofs.lemmas.List.{get_or_append_left, get_or-append_right, get_or_default, get_or-set_other, get_or-set_same, length-set, set-append_left, set-append_right}
-use Rattle.match_network.specs.Conditions.{level_at, rows_of}
+use Rattle.std.proofs.Common.{◌≡◌, ℕ, ◌-◌, ◌<◌, List, [], ◌++◌, length, get_or, set, ap, sym, ◌∙◌, arith, length-append}
+use Rattle.std.proofs.lemmas.List.{get_or_append_left, get_or-append_right, get_or_default, length-set, set-append_left, set-append_right}
+use Rattle.match_network.specs.Conditions.{level_at}
 use Rattle.match_network.specs.Filed.{LevelRows}
 
 -- levels in two parts: the one before the cut, the one after it, and a change of the latter

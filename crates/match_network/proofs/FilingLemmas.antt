@@ -1,22 +1,22 @@
 -- What is filed, as elements come and go.
-use Rattle.std.proofs.Common.{◌≡◌, ℕ, ◌+◌, ◌<◌, ◌≤◌, ◌==◌, List, [], ◌∷◌, ◌++◌, Bool, true, false, not, cond, ◌&&◌, ◌||◌, drop, get_or, length, map, zero, suc, refl, ap, subst, sym, ◌∙◌, arith, length-append, Option, Some, None, slice_get}
-use Rattle.std.specs.List.{AllByRecursion, filter, list_all, list_any}
+use Rattle.std.proofs.Common.{◌≡◌, ℕ, ◌+◌, ◌<◌, ◌==◌, List, [], ◌∷◌, ◌++◌, Bool, true, false, cond, ◌&&◌, ◌||◌, drop, get_or, length, map, zero, suc, refl, ap, subst, sym, ◌∙◌, arith, length-append, slice_get}
+use Rattle.std.specs.List.{AllByRecursion, filter}
 use Rattle.std.specs.Option.{option_map_or}
 use Rattle.std.proofs.lemmas.Bool.{eq-eqb, ne_eqb}
 use Rattle.std.proofs.lemmas.List.{map-append}
 use Rattle.std.proofs.lemmas.List.Elements.{filter-append}
 use Rattle.rule_base.specs.declared.element.Element.{Element}
 use Rattle.rule_base.specs.Numbers.{has_number}
-use Rattle.rule_base.proofs.EachLemmas.{Each-always, Each-append, Each-filter, Each-weaker}
+use Rattle.rule_base.proofs.EachLemmas.{Each-always, Each-append, Each-weaker}
 use Rattle.working_memory.proofs.PlaceLemmas.{filter-agree, filter-both, has_number-filter}
 use Rattle.join_tests.specs.declared.joins.Join.{Join}
 use Rattle.join_tests.specs.Hashing.{hash_of}
 use Rattle.join_tests.specs.Joining.{key_of_element, key_of_row, passes}
-use Rattle.match_network.specs.Conditions.{AreFiled, IsLevelOf, level_at}
-use Rattle.match_network.specs.Filed.{IsFiled, IsStore, LevelRows, filed, filed_rows, hash_at, living_entries, passes_at, row_at, row_hash, row_lives, store_entries}
+use Rattle.match_network.specs.Conditions.{level_at}
+use Rattle.match_network.specs.Filed.{IsFiled, LevelRows, filed, filed_rows, hash_at, living_entries, passes_at, row_at, row_hash, row_lives, store_entries}
 use Rattle.match_network.specs.FilingLaws.{LevelsMeetArrivals, LevelsMeetRemovals, StoresMeetArrivals, StoresMeetRemovals}
 use Rattle.match_network.specs.Levels.{HaveCome}
-use Rattle.match_network.specs.Row.{elements_of, is_living, some_passes}
+use Rattle.match_network.specs.Row.{is_living, some_passes}
 use Rattle.match_network.proofs.ComeLemmas.{HaveCome-more, elements_of-come, slice_get-more}
 use Rattle.match_network.proofs.GivenLemmas.{filed-numbered}
 use Rattle.match_network.proofs.LevelLemmas.{lives_in_more}

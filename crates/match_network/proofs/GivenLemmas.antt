@@ -1,9 +1,9 @@
 -- What a level is given keeps the levels of a rule right.
-use Rattle.std.proofs.Common.{◌≡◌, ◌≢◌, ℕ, ◌+◌, ◌-◌, ◌<◌, ◌≤◌, ◌==◌, List, [], ◌∷◌, ◌++◌, Bool, true, false, not, cond, ◌&&◌, drop, length, get_or, map, reverse, set, zero, suc, refl, ap, subst, sym, ◌∙◌, arith, length-append, inl, inr, Option, Some, None, slice_get, Result, Ok, Err}
-use Rattle.std.specs.List.{AllByRecursion, filter, flat_map}
+use Rattle.std.proofs.Common.{◌≡◌, ℕ, ◌+◌, ◌-◌, ◌<◌, ◌≤◌, ◌==◌, List, [], ◌∷◌, ◌++◌, Bool, true, false, not, cond, ◌&&◌, drop, length, get_or, map, reverse, set, zero, suc, refl, ap, subst, sym, ◌∙◌, arith, length-append, inl, inr, Option, Some, None, slice_get, Result, Ok, Err}
+use Rattle.std.specs.List.{AllByRecursion, filter}
 use Rattle.std.specs.Option.{option_map_or}
 use Rattle.std.specs.Result.{OnErr, OnOk}
-use Rattle.std.proofs.lemmas.Bool.{cases_eq, eqb-true}
+use Rattle.std.proofs.lemmas.Bool.{cases_eq}
 use Rattle.std.proofs.lemmas.Bool.Decides.{nat_tests}
 use Rattle.std.proofs.lemmas.List.{get_or_append_left, get_or_default, get_or-set_other, get_or-set_same, length-set}
 use Rattle.std.proofs.lemmas.List.Concat.{flat_map-cons}
@@ -16,13 +16,13 @@ use Rattle.join_tests.specs.declared.joins.Join.{Join}
 use Rattle.join_tests.specs.Joining.{joins, passes, same_key, tests_hold}
 use Rattle.hash_buckets.specs.Buckets.{Buckets}
 use Rattle.match_network.specs.Conditions.{AreCleaned, AreFiled, IsBegun, IsGiven, IsGivenPart, IsLevelOf, entries_at, joins_of, level_at, rows_of}
-use Rattle.match_network.specs.Filed.{IsFiled, LevelRows, filed, filed_rows, living_entries, only, passes_at, row_at, row_lives, with_rows}
-use Rattle.match_network.specs.Joining.{IsCleaned, agrees, agrees_at, extended}
+use Rattle.match_network.specs.Filed.{IsFiled, LevelRows, filed, filed_rows, living_entries, only, passes_at, row_lives, with_rows}
+use Rattle.match_network.specs.Joining.{IsCleaned, agrees, extended}
 use Rattle.match_network.specs.SoFar.{IsPart}
 use Rattle.match_network.specs.Levels.{HaveCome}
 use Rattle.match_network.specs.Row.{Joins, elements_of, extends, is_living, some_passes}
 use Rattle.match_network.specs.Woven.{Levels, grown, joined, made, offered, with_place}
-use Rattle.match_network.proofs.ComeLemmas.{Each-reverse, grown-come, joined-come, slice_get-past}
+use Rattle.match_network.proofs.ComeLemmas.{Each-reverse, grown-come, joined-come}
 use Rattle.match_network.proofs.FiledLemmas.{IsCleaned-none, passed_came}
 use Rattle.match_network.proofs.SoFarLemmas.{drop_from, filed-append}
 

@@ -1,7 +1,7 @@
 -- What weaving leaves of levels.
-use Rattle.std.proofs.Common.{◌≡◌, ℕ, ◌+◌, ◌-◌, ◌<◌, ◌≤◌, ◌==◌, List, [], ◌∷◌, ◌++◌, Bool, true, false, not, cond, ◌&&◌, ◌||◌, eqb, length, map, reverse, zero, suc, refl, ap, sym, ◌∙◌, arith, inl, inr, subst, append_assoc, length-append, Option, Some, None, slice_get, nat_le}
-use Rattle.std.specs.List.{AllByRecursion, filter, list_all, list_any}
-use Rattle.std.proofs.lemmas.Bool.{and_parts, and_from, cases_lt, cond-true, cond-false, eqb-true, le-leb, lt-leb, or_parts}
+use Rattle.std.proofs.Common.{◌≡◌, ℕ, ◌+◌, ◌-◌, ◌<◌, ◌==◌, List, [], ◌∷◌, ◌++◌, Bool, true, false, not, cond, ◌&&◌, ◌||◌, length, zero, suc, refl, ap, sym, ◌∙◌, arith, inl, inr, subst, append_assoc, length-append, Option, Some, None, slice_get, nat_le}
+use Rattle.std.specs.List.{AllByRecursion, filter, list_any}
+use Rattle.std.proofs.lemmas.Bool.{and_parts, cases_lt, eqb-true, le-leb, lt-leb, or_parts}
 use Rattle.std.proofs.lemmas.Bool.Decides.{nat_tests}
 use Rattle.rule_base.specs.declared.element.Element.{Element}
 use Rattle.rule_base.specs.Memory.{Rises}
@@ -15,7 +15,7 @@ use Rattle.match_network.specs.Times.{times}
 use Rattle.match_network.specs.Woven.{Levels, made, woven}
 use Rattle.match_network.proofs.ComeLemmas.{or_rest, Each-has, HaveCome-living, HaveCome-more, is_match-come, made-come}
 use Rattle.match_network.proofs.RowLemmas.{has_number-push, is_first-past, same_row}
-use Rattle.match_network.proofs.TimesLemmas.{times-agree, times-and, times-append, times-filter, times-none}
+use Rattle.match_network.proofs.TimesLemmas.{times-agree, times-append, times-filter, times-none}
 use Rattle.match_network.proofs.WeaveLemmas.{IsOnce, made-times}
 
 -- 1 where it holds

@@ -1,13 +1,12 @@
 -- Rows and one place more: whether they are the same, living, matches, and where a place stands in them.
-use Rattle.std.proofs.Common.{◌≡◌, ℕ, ◌+◌, ◌<◌, ◌≤◌, ◌==◌, List, [], ◌∷◌, ◌++◌, Bool, true, false, not, cond, ◌&&◌, ◌||◌, eqb, length, zero, suc, refl, ap, sym, ◌∙◌, arith, inl, inr, subst, append_assoc, Option, Some, None, slice_get}
-use Rattle.std.specs.List.{AllByRecursion, filter_map, list_all, list_any}
-use Rattle.std.proofs.lemmas.Bool.Decides.{Decides-and, Decides-eqb, Decides-like, nat_tests, same_from_decides}
+use Rattle.std.proofs.Common.{◌≡◌, ℕ, ◌<◌, ◌≤◌, ◌==◌, List, [], ◌∷◌, ◌++◌, Bool, true, false, not, ◌&&◌, ◌||◌, length, zero, suc, refl, ap, sym, ◌∙◌, arith, append_assoc}
+use Rattle.std.proofs.lemmas.Bool.Decides.{Decides-and, Decides-eqb, Decides-like, same_from_decides}
 use Rattle.std.proofs.lemmas.List.{append-nil, same_from_push}
 use Rattle.std.proofs.lemmas.List.Folds.{list_all-append, list_any-append}
 use Rattle.std.proofs.lemmas.Slice.Eq.{bytes_eq-Decides}
 use Rattle.rule_base.specs.declared.element.Element.{Element}
 use Rattle.rule_base.specs.Numbers.{has_number, same_numbers}
-use Rattle.match_network.specs.Row.{Joins, elements_of, extends, is_first, is_living, is_match, joins_after}
+use Rattle.match_network.specs.Row.{Joins, extends, is_first, is_living, is_match, joins_after}
 
 pub same_row : (row other : List ℕ) → same_numbers row other ≡ true → row ≡ other
 same_row row other same = (bytes_eq-Decides row other).0 same

@@ -1,6 +1,6 @@
 -- A level while rows are added: a few more, and all of them.
-use Rattle.std.proofs.Common.{◌≡◌, ℕ, ◌+◌, ◌<◌, ◌≤◌, ◌==◌, List, [], ◌∷◌, ◌++◌, Bool, true, false, cond, drop, length, map, reverse, zero, suc, refl, ap, sym, ◌∙◌, arith, append_assoc, length-append, Option, Some, slice_get}
-use Rattle.std.specs.List.{AllByRecursion, filter, slice_index_or}
+use Rattle.std.proofs.Common.{◌≡◌, ℕ, ◌+◌, ◌≤◌, ◌==◌, List, [], ◌∷◌, ◌++◌, Bool, true, false, cond, drop, length, map, reverse, zero, suc, refl, ap, sym, ◌∙◌, arith, append_assoc, length-append, Some, slice_get}
+use Rattle.std.specs.List.{AllByRecursion, filter}
 use Rattle.std.proofs.lemmas.List.{append-nil, drop_all}
 use Rattle.std.proofs.lemmas.List.Concat.{flat_map-cons}
 use Rattle.rule_base.specs.declared.element.Element.{Element}
@@ -10,7 +10,7 @@ use Rattle.match_network.proofs.ComeLemmas.{Each-reverse}
 use Rattle.join_tests.specs.declared.joins.Join.{Join}
 use Rattle.match_network.specs.Filed.{LevelRows, filed, filed_rows, row_at, row_hash, with_rows}
 use Rattle.match_network.specs.Joining.{agrees_at, extended, taken, takes}
-use Rattle.match_network.specs.SoFar.{IsPart, IsSoFar}
+use Rattle.match_network.specs.SoFar.{IsSoFar}
 use Rattle.match_network.specs.Woven.{grown, offered, with_place}
 use Rattle.match_network.specs.Row.{Joins}
 

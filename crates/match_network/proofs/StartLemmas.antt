@@ -1,12 +1,12 @@
 -- Levels with no rows are right where no element came.
-use Rattle.std.proofs.Common.{◌≡◌, ℕ, ◌+◌, ◌<◌, ◌≤◌, List, [], ◌∷◌, ◌++◌, Bool, true, false, cond, ◌&&◌, drop, get_or, length, zero, suc, refl, ap, subst, sym, ◌∙◌, arith, length-append, inl, inr}
+use Rattle.std.proofs.Common.{◌≡◌, ℕ, ◌+◌, ◌<◌, List, [], ◌∷◌, ◌++◌, true, cond, drop, length, zero, suc, refl, ap, subst, sym, ◌∙◌, arith, length-append, inl, inr}
 use Rattle.std.specs.List.{AllByRecursion}
 use Rattle.std.proofs.lemmas.Bool.{cases_eq, cases_lt}
 use Rattle.std.proofs.lemmas.List.{get_or_append_left, get_or_past, get_or_push}
 use Rattle.rule_base.specs.Numbers.{same_numbers}
 use Rattle.join_tests.specs.declared.joins.Join.{Join}
 use Rattle.match_network.specs.Conditions.{AreFiled, IsLevelOf, joins_of, level_at, rows_of}
-use Rattle.match_network.specs.Filed.{IsFiled, LevelRows, filed, living_entries, row_lives}
+use Rattle.match_network.specs.Filed.{LevelRows, filed, living_entries, row_lives}
 use Rattle.match_network.specs.Levels.{AreLevels, HaveCome}
 use Rattle.match_network.specs.Row.{is_living, is_match}
 use Rattle.match_network.specs.Times.{times}

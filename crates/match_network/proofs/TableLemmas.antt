@@ -1,10 +1,10 @@
 -- Rows in one list of places: each lies where its number says, and one more lies behind the others.
-use Rattle.std.proofs.Common.{◌≡◌, ℕ, ◌+◌, ◌-◌, ◌*◌, ◌<◌, ◌≤◌, ◌^◌, List, [], ◌∷◌, ◌++◌, drop, length, take, Option, Some, slice_get, zero, suc, refl, ap, sym, ◌∙◌, arith, length-append, length-drop}
+use Rattle.std.proofs.Common.{◌≡◌, ℕ, ◌+◌, ◌*◌, ◌<◌, ◌≤◌, List, [], ◌∷◌, ◌++◌, drop, length, take, Some, slice_get, zero, suc, refl, ap, sym, ◌∙◌, arith, length-drop}
 use Rattle.std.specs.List.{AllByRecursion}
 use Rattle.std.proofs.Math.Nat.{suc-mul}
 use Rattle.std.proofs.lemmas.Nat.{row_fits}
 use Rattle.std.proofs.lemmas.List.{drop-append-le, drop-drop, drop-take, take-take, length-take-le, nil_from_length, take-append-le, take_all}
-use Rattle.match_network.specs.RowTable.{AreRows, rows_in}
+use Rattle.match_network.specs.RowTable.{rows_in}
 
 -- one row more
 left_full : (width count : ℕ) (places : List ℕ) → length places ≡ suc count * width → length (drop width places) ≡ count * width

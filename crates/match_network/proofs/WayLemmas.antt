@@ -1,24 +1,23 @@
 -- A place on its way through the levels of a rule, from the condition element where it is woven in to the last.
-use Rattle.std.proofs.Common.{◌≡◌, ℕ, ◌+◌, ◌-◌, ◌<◌, ◌≤◌, ◌==◌, List, [], ◌∷◌, ◌++◌, Bool, true, false, not, cond, ◌&&◌, ◌||◌, drop, length, map, reverse, zero, suc, refl, ap, subst, sym, ◌∙◌, arith, length-append, inl, inr, ◌⊎◌, Option, Some, None, slice_get, nat_le}
-use Rattle.std.specs.List.{AllByRecursion, filter, flat_map}
+use Rattle.std.proofs.Common.{◌≡◌, ℕ, ◌+◌, ◌-◌, ◌<◌, ◌≤◌, ◌==◌, List, [], ◌∷◌, ◌++◌, Bool, true, false, cond, ◌||◌, drop, length, map, reverse, zero, suc, refl, ap, subst, sym, ◌∙◌, arith, length-append, inl, inr, Option, Some, None, slice_get}
+use Rattle.std.specs.List.{AllByRecursion, filter}
 use Rattle.std.specs.Option.{option_map_or}
 use Rattle.std.proofs.lemmas.Bool.{cases_eq, cases_lt, eq-eqb, le-leb, lt-leb, ne_eqb}
 use Rattle.std.proofs.lemmas.List.{append-nil, drop_at}
 use Rattle.std.proofs.lemmas.List.Concat.{flat_map-cons}
 use Rattle.rule_base.specs.declared.element.Element.{Element}
 use Rattle.rule_base.specs.Numbers.{has_number}
-use Rattle.rule_base.proofs.EachLemmas.{Each-always, Each-both, Each-filter, Each-flat_map, Each-map, Each-weaker}
+use Rattle.rule_base.proofs.EachLemmas.{Each-always, Each-both, Each-flat_map, Each-map, Each-weaker}
 use Rattle.hash_buckets.specs.Buckets.{Buckets}
 use Rattle.join_tests.specs.declared.joins.Join.{Join}
 use Rattle.join_tests.specs.Joining.{joins}
-use Rattle.match_network.specs.Conditions.{AreCleaned, AreFiled, AreStores, IsGiven, IsGivenPart, entries_at, joins_of, rows_of}
-use Rattle.match_network.specs.Filed.{LevelRows}
+use Rattle.match_network.specs.Conditions.{AreCleaned, AreStores, IsGiven, IsGivenPart, entries_at, joins_of}
 use Rattle.match_network.specs.Levels.{HaveCome, OnlyAdds}
 use Rattle.match_network.specs.Row.{Joins, elements_of, extends, some_passes}
 use Rattle.match_network.specs.Woven.{Levels, grown, joined, made, offered, with_place, woven}
 use Rattle.match_network.proofs.ComeLemmas.{grown-come, made-come, slice_get-past}
 use Rattle.match_network.proofs.FiledLemmas.{IsCleaned-more, IsStore-cleaned}
-use Rattle.match_network.proofs.GivenLemmas.{Each-drop, Each-first, grown-widths, joined-widths, rows_come, rows_widths}
+use Rattle.match_network.proofs.GivenLemmas.{Each-first, grown-widths, joined-widths}
 use Rattle.match_network.proofs.RowLemmas.{has_number-push}
 
 -- all rows that a place makes have it

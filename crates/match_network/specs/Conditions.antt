@@ -1,5 +1,5 @@
 -- The levels of a rule, one for each of its positive condition elements.
-use Rattle.std.specs.Prelude.{◌≡◌, ℕ, ◌+◌, ◌-◌, ◌<◌, ◌==◌, ◌++◌, true, List, [], ◌∷◌, Bool, false, drop, length, slice_get, slice_index_or, slice_set, suc, zero, Some}
+use Rattle.std.specs.Prelude.{◌≡◌, ℕ, ◌+◌, ◌-◌, ◌<◌, ◌==◌, ◌++◌, List, [], ◌∷◌, false, drop, length, slice_get, slice_index_or, slice_set, suc, zero, Some}
 use Rattle.std.specs.List.{AllByRecursion}
 use Rattle.std.specs.Option.{option_map_or}
 use Rattle.rule_base.specs.declared.element.Element.{Element}

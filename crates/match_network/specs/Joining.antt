@@ -1,5 +1,5 @@
 -- The rows that come of walking along what is filed under one hash.
-use Rattle.std.specs.Prelude.{◌≡◌, ℕ, List, ◌∷◌, [], Bool, true, not, ◌&&◌, filter, map, slice_get}
+use Rattle.std.specs.Prelude.{◌≡◌, ℕ, List, Bool, true, not, ◌&&◌, filter, map, slice_get}
 use Rattle.rule_base.specs.declared.element.Element.{Element}
 use Rattle.rule_base.specs.Numbers.{has_number}
 use Rattle.join_tests.specs.declared.joins.Join.{Join}

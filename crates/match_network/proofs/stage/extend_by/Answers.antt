@@ -1,13 +1,12 @@
 -- One place more.
-use Rattle.std.proofs.Common.{◌≡◌, ℕ, ◌+◌, ◌<◌, ◌∷◌, [], ◌++◌, List, ap, arith, length, map, reverse, subst, sym, ◌∙◌}
+use Rattle.std.proofs.Common.{◌≡◌, ℕ, ◌<◌, ◌∷◌, [], ◌++◌, List, ap, arith, length, reverse, subst, sym, ◌∙◌}
 use Rattle.std.specs.List.{AllByRecursion}
 use Rattle.std.proofs.lemmas.Result.{err_from_is_err_and}
 use Rattle.hash_buckets.specs.Buckets.{numbers_of}
 use Rattle.match_network.specs.Filed.{LevelRows}
 use Rattle.match_network.specs.Joining.{extended}
-use Rattle.match_network.specs.Filed.{row_at}
 use Rattle.match_network.specs.Times.{times}
-use Rattle.match_network.specs.Tried.{has_key, tries}
+use Rattle.match_network.specs.Tried.{has_key}
 use Rattle.match_network.specs.SoFar.{IsPart, IsSoFar}
 use Rattle.match_network.proofs.SoFarLemmas.{Each-bucket, so_far_all, so_far_next, so_far_none, extended-cons}
 use Rattle.match_network.proofs.stage.extend_by.Goals as goal

@@ -1,11 +1,10 @@
 -- Some of what is to be added was added, and what is left was filed.
-use Rattle.std.proofs.Common.{◌≡◌, ℕ, ◌+◌, ◌<◌, ◌≤◌, map, length, reverse}
+use Rattle.std.proofs.Common.{◌≡◌, ◌+◌, ◌<◌, ◌≤◌, length, reverse}
 use Rattle.std.specs.List.{AllByRecursion}
 use Rattle.hash_buckets.specs.Buckets.{numbers_of}
 use Rattle.match_network.specs.Joining.{extended}
-use Rattle.match_network.specs.Filed.{row_at}
 use Rattle.match_network.specs.Times.{times}
-use Rattle.match_network.specs.Tried.{has_key, tries}
+use Rattle.match_network.specs.Tried.{has_key}
 use Rattle.match_network.specs.SoFar.{IsSoFar}
 use Rattle.match_network.proofs.stage.extend_by.Given as goal
 

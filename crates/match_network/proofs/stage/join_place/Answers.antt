@@ -1,17 +1,11 @@
 -- All that has the key is in the bucket.
-use Rattle.std.proofs.Common.{◌≡◌, ℕ, ◌+◌, ◌<◌, ◌≤◌, ◌∷◌, [], ◌++◌, List, ap, arith, drop, length, map, reverse, rules, subst, sym, ◌∙◌, Some, slice_get}
-use Rattle.std.specs.List.{AllByRecursion}
+use Rattle.std.proofs.Common.{◌≡◌, ℕ, ◌+◌, ◌≤◌, ◌∷◌, List, rules, subst, ◌∙◌}
 use Rattle.std.specs.Result.{OnErr, OnOk}
-use Rattle.rule_base.specs.Numbers.{has_number}
 use Rattle.rule_base.specs.Views.{element_in}
-use Rattle.hash_buckets.specs.Buckets.{numbers_of}
 use Rattle.join_tests.specs.Hashing.{hash_of}
-use Rattle.join_tests.specs.Joining.{key_of_element, key_of_row}
-use Rattle.match_network.specs.Filed.{LevelRows, hash_at, only, row_hash, with_rows}
-use Rattle.match_network.specs.Joining.{IsCleaned, extended, taken}
-use Rattle.match_network.specs.Levels.{HaveCome}
-use Rattle.match_network.specs.SoFar.{IsPart, IsSoFar}
-use Rattle.match_network.specs.Woven.{grown, joined, offered, with_place}
+use Rattle.join_tests.specs.Joining.{key_of_element}
+use Rattle.match_network.specs.Filed.{with_rows}
+use Rattle.match_network.specs.SoFar.{IsPart}
 use Rattle.match_network.proofs.FiledLemmas.{IsFiled-cleaned, hash_at-is, passed_came, taken_in}
 use Rattle.match_network.proofs.TriedLemmas.{rows_tried_in}
 use Rattle.match_network.proofs.stage.join_place.Goals as goal

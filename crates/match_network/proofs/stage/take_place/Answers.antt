@@ -1,6 +1,5 @@
 -- The row takes the place, or not.
-use Rattle.std.proofs.Common.{◌≡◌, ℕ, ◌<◌, ◌∷◌, [], ◌++◌, List, ap, length, subst, sym, ◌∙◌, rules, true, false}
-use Rattle.std.specs.List.{AllByRecursion}
+use Rattle.std.proofs.Common.{◌≡◌, ℕ, ◌<◌, ◌∷◌, [], List, ap, length, subst, sym, ◌∙◌, true, false}
 use Rattle.std.specs.Result.{OnOk}
 use Rattle.rule_base.proofs.EachLemmas.{Each-append, Each-slice_get}
 use Rattle.match_network.specs.Filed.{with_rows}

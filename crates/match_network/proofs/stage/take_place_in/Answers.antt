@@ -1,5 +1,5 @@
 -- One number more.
-use Rattle.std.proofs.Common.{◌≡◌, ℕ, ◌+◌, ◌<◌, ◌∷◌, [], ◌++◌, List, ap, arith, length, map, reverse, subst, sym, ◌∙◌}
+use Rattle.std.proofs.Common.{◌≡◌, ℕ, ◌<◌, ◌∷◌, [], ◌++◌, List, ap, arith, length, map, reverse, subst, sym, ◌∙◌}
 use Rattle.std.specs.List.{AllByRecursion}
 use Rattle.std.proofs.lemmas.Result.{err_from_is_err_and}
 use Rattle.hash_buckets.specs.Buckets.{numbers_of}
@@ -7,7 +7,7 @@ use Rattle.match_network.specs.Filed.{LevelRows}
 use Rattle.match_network.specs.Joining.{taken}
 use Rattle.match_network.specs.Filed.{row_at}
 use Rattle.match_network.specs.Times.{times}
-use Rattle.match_network.specs.Tried.{has_key, tries}
+use Rattle.match_network.specs.Tried.{tries}
 use Rattle.match_network.specs.SoFar.{IsPart, IsSoFar}
 use Rattle.match_network.proofs.SoFarLemmas.{Each-bucket, so_far_all, so_far_next, so_far_none, taken-cons}
 use Rattle.match_network.proofs.stage.take_place_in.Goals as goal

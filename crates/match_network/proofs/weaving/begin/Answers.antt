@@ -1,14 +1,12 @@
 -- The place begins alone, or with the rows before it.
-use Rattle.std.proofs.Common.{◌≡◌, ℕ, ◌+◌, ◌-◌, ◌<◌, ◌≤◌, ◌∷◌, [], ◌++◌, List, Some, ap, arith, drop, length, map, refl, set, slice_get, subst, sym, true, ◌∙◌}
+use Rattle.std.proofs.Common.{◌≡◌, ◌+◌, ◌-◌, ◌<◌, ◌∷◌, [], ap, arith, drop, length, map, refl, set, subst, sym, true, ◌∙◌}
 use Rattle.std.specs.List.{AllByRecursion}
 use Rattle.std.specs.Result.{OnErr, OnOk}
 use Rattle.match_network.specs.Arrivals.{Arrivals}
-use Rattle.match_network.specs.Conditions.{AreCleaned, AreFiled, AreStores, IsBegun, IsGiven, IsGivenPart, entries_at, joins_of, level_at, rows_of}
-use Rattle.match_network.specs.Filed.{IsFiled, IsStore, LevelRows, only, passes_at, with_rows}
+use Rattle.match_network.specs.Conditions.{AreFiled, IsGiven, IsGivenPart, joins_of, level_at, rows_of}
+use Rattle.match_network.specs.Filed.{IsFiled, only, passes_at, with_rows}
 use Rattle.match_network.specs.Joining.{extended}
-use Rattle.match_network.specs.Levels.{HaveCome}
-use Rattle.match_network.specs.SoFar.{IsPart}
-use Rattle.match_network.specs.Woven.{grown, joined, made, with_place}
+use Rattle.match_network.specs.Woven.{joined, made, with_place}
 use Rattle.match_network.proofs.ComeLemmas.{joined-come}
 use Rattle.match_network.proofs.FiledLemmas.{passed_came}
 use Rattle.match_network.proofs.GivenLemmas.{Begun, begun_alone, begun_joined, begun_part, by_result, joined-widths, made_joined, on_err, on_ok}

@@ -1,5 +1,5 @@
 -- The level before the cut is cleaned, and the one at it gets rows.
-use Rattle.std.proofs.Common.{◌≡◌, ℕ, ◌+◌, ◌-◌, ◌∷◌, ◌++◌, List, ap, get_or, length, map, set, slice_set, subst, sym, ◌∙◌}
+use Rattle.std.proofs.Common.{◌≡◌, ℕ, ◌-◌, ◌∷◌, ◌++◌, List, ap, get_or, map, set, subst, ◌∙◌}
 use Rattle.std.proofs.lemmas.Result.{err_from_is_err_and}
 use Rattle.match_network.specs.Conditions.{IsBegun, level_at}
 use Rattle.match_network.specs.Filed.{LevelRows, only, with_rows}

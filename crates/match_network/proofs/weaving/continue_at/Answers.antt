@@ -1,14 +1,11 @@
 -- The level at the number is given what comes of the last rows before it.
-use Rattle.std.proofs.Common.{◌≡◌, ℕ, ◌+◌, ◌-◌, ◌<◌, ◌≤◌, ◌∷◌, [], ◌++◌, List, Some, ap, arith, drop, get_or, length, map, rules, set, slice_get, subst, sym, true, ◌∙◌}
+use Rattle.std.proofs.Common.{◌≡◌, ◌+◌, ◌-◌, ◌<◌, [], arith, drop, get_or, length, rules, set, subst, sym}
 use Rattle.std.specs.List.{AllByRecursion}
 use Rattle.std.specs.Result.{OnErr, OnOk}
 use Rattle.match_network.specs.Arrivals.{Arrivals}
-use Rattle.match_network.specs.Conditions.{AreCleaned, AreFiled, AreStores, IsBegun, IsGiven, IsGivenPart, entries_at, joins_of, level_at, rows_of}
-use Rattle.match_network.specs.Filed.{IsFiled, IsStore, LevelRows, only, passes_at, with_rows}
-use Rattle.match_network.specs.Joining.{extended}
-use Rattle.match_network.specs.Levels.{HaveCome}
-use Rattle.match_network.specs.SoFar.{IsPart}
-use Rattle.match_network.specs.Woven.{grown, joined, made, with_place}
+use Rattle.match_network.specs.Conditions.{AreCleaned, AreFiled, IsGiven, IsGivenPart, entries_at, joins_of, level_at, rows_of}
+use Rattle.match_network.specs.Filed.{IsStore, only}
+use Rattle.match_network.specs.Woven.{grown}
 use Rattle.hash_buckets.specs.Buckets.{Buckets}
 use Rattle.std.proofs.lemmas.List.{get_or_default}
 use Rattle.match_network.proofs.GivenLemmas.{AreCleaned-set, by_result, filed_set, get_or-is, given_set, grows, on_err, on_ok, set_part, within-is}

@@ -1,5 +1,5 @@
 -- The level at the cut is the one that changes.
-use Rattle.std.proofs.Common.{◌≡◌, ℕ, ◌+◌, ◌-◌, ◌++◌, List, ap, drop, get_or, length, set, slice_set, subst, sym, ◌∙◌}
+use Rattle.std.proofs.Common.{◌≡◌, ℕ, ◌-◌, List, ap, drop, get_or, set, subst, ◌∙◌}
 use Rattle.std.proofs.lemmas.Result.{err_from_is_err_and}
 use Rattle.match_network.specs.Conditions.{level_at}
 use Rattle.match_network.specs.Filed.{LevelRows, only, with_rows}

@@ -1,11 +1,11 @@
 -- From level to level.
-use Rattle.std.proofs.Common.{◌≡◌, ℕ, ◌+◌, ◌-◌, ◌≤◌, ◌<◌, List, ap, arith, drop, length}
+use Rattle.std.proofs.Common.{◌≡◌, ◌+◌, ◌-◌, ◌≤◌, ap, arith, drop, length}
 use Rattle.match_network.specs.Conditions.{entries_at, joins_of, rows_of}
 use Rattle.match_network.proofs.ComeLemmas.{some_at}
 use Rattle.match_network.proofs.FiledLemmas.{IsCleaned-none, passed_came}
 use Rattle.match_network.proofs.GivenLemmas.{rows_come, rows_widths}
 use Rattle.match_network.proofs.WayLemmas.{AreCleaned-more, AreStores-cleaned, stopped_at_once, stopped_later, way_adds, way_begins, way_ends, way_goes_on}
-use Rattle.match_network.specs.Tried.{at_number, pairs_tried, woven_tried}
+use Rattle.match_network.specs.Tried.{woven_tried}
 use Rattle.match_network.proofs.TriedLemmas.{tried_more, tried_within}
 use Rattle.match_network.proofs.weaving.weave.Goals as goal
 
@@ -140,5 +140,5 @@ returns-clause-steps g c =
       arith,
       l.invariant.steps,
       ap (woven_tried all conditions.arrivals.now.came conditions.arrivals.now.places c.args.place c.args.at (rows_of c.args.levels.now c.args.at))
-        (let end : l.number - (c.args.at + 1) ≡ length all - (c.args.at + 1) = omega (arith, c.loop-number-test.false, l.auto.number-end, c.requires.at) in end),
+          (let end : l.number - (c.args.at + 1) ≡ length all - (c.args.at + 1) = omega (arith, c.loop-number-test.false, l.auto.number-end, c.requires.at) in end),
     )

@@ -1,9 +1,8 @@
 -- One more has arrived.
-use Rattle.std.proofs.Common.{◌≡◌, ◌<◌, ◌+◌, [], ◌∷◌, ◌++◌, ◌∙◌, ap, arith, subst, sym}
+use Rattle.std.proofs.Common.{◌<◌, ◌+◌, [], ◌∷◌, ◌++◌, ◌∙◌, ap, arith, subst, sym}
 use Rattle.std.specs.List.{AllByRecursion}
 use Rattle.rule_base.specs.declared.element.Element.{Element}
 use Rattle.rule_base.specs.Views.{element_in}
-use Rattle.working_memory.specs.Memory.{Places}
 use Rattle.match_network.specs.Arrivals.{Arrivals}
 use Rattle.match_network.proofs.TagLemmas.{one_more_arrived}
 use Rattle.match_network.proofs.arrivals.Arrivals.insert.Goals as goal

@@ -1,5 +1,5 @@
 -- Only one place has the tag, or none.
-use Rattle.std.proofs.Common.{◌≡◌, ℕ, List, false, ap, arith, rules, subst, sym, ◌∙◌}
+use Rattle.std.proofs.Common.{◌≡◌, ℕ, List, false, arith, subst, sym, ◌∙◌}
 use Rattle.std.specs.List.{list_any}
 use Rattle.rule_base.specs.declared.element.Element.{Element}
 use Rattle.match_network.specs.Arrivals.{Arrivals, has_tag, without_tag}

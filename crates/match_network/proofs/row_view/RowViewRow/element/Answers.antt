@@ -1,5 +1,5 @@
 -- The element is that of the place at the position.
-use Rattle.std.proofs.Common.{◌≡◌, None, Some, ap, option_and_then, rules, slice_get, subst, sym, ◌∙◌}
+use Rattle.std.proofs.Common.{◌≡◌, None, Some, ap, option_and_then, slice_get, subst, sym, ◌∙◌}
 use Rattle.rule_base.specs.Views.{element_in}
 use Rattle.match_network.specs.Row.{elements_of}
 use Rattle.match_network.proofs.ComeLemmas.{elements_of-at, slice_get-here, slice_get-past}

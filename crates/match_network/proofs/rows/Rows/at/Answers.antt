@@ -1,5 +1,5 @@
 -- The row lies within the places.
-use Rattle.std.proofs.Common.{◌≡◌, ◌+◌, ◌-◌, ◌*◌, ◌<◌, ◌≤◌, Some, drop, length, slice_get, take, ap, arith, subst, sym, ◌∙◌}
+use Rattle.std.proofs.Common.{◌≡◌, ◌+◌, ◌-◌, ◌*◌, ◌<◌, Some, drop, length, slice_get, take, ap, arith, subst, sym, ◌∙◌}
 use Rattle.match_network.specs.RowTable.{RowTable}
 use Rattle.match_network.proofs.TableLemmas.{length-rows_in, row_within, rows_in-at}
 use Rattle.match_network.proofs.rows.Rows.at.Goals as goal

@@ -1,5 +1,5 @@
 -- The places of the last row go.
-use Rattle.std.proofs.Common.{◌≡◌, ◌+◌, ◌-◌, ◌*◌, ◌<◌, List, ℕ, ap, arith, length, subst, suc, sym, take, ◌∙◌}
+use Rattle.std.proofs.Common.{◌≡◌, ◌-◌, ◌<◌, ap, arith, length, subst, suc, sym, take, ◌∙◌}
 use Rattle.match_network.specs.RowTable.{RowTable, rows_in}
 use Rattle.match_network.proofs.TableLemmas.{length-rows_in, rows_in-pop}
 use Rattle.match_network.proofs.rows.Rows.pop.Goals as goal
