@@ -64,11 +64,12 @@ cut_tests p old new cut hash = record {
       ∙ ap (λ (b : Bool). ((link_at old i).hash == hash) && b) (cut.others i other);
 }
 
--- where a walk is that keeps some links and unlinks others: the link that it kept last leads to where it is
+-- how many links lie before the one that a walk kept last, or all where it kept none
 abbrev pub end_of : ℕ → List Link → ℕ
 end_of zero links = length links
 end_of (suc place) links = place
 
+-- where a walk is that keeps some links and unlinks others: the link that it kept last leads to where it is
 pub record IsWalking (hash : ℕ) (links : List Link) (first kept at : ℕ) : Type 0 where
   pub linked : AreLinked links
   pub first_is : first ≡ newest hash links (length links)

@@ -1,10 +1,10 @@
 -- the last place that passes a test
 pub mod PlaceLemmas
--- what links say, and what a new link or a cut changes
+-- a new link
 pub mod LinkLemmas
 -- the numbers of one hash, newest first
 pub mod BucketLemmas
--- one link is unlinked
+-- one link is unlinked, in the midst of a walk
 pub mod CutLemmas
 -- a bucket is cleaned
 pub mod CleanLemmas
