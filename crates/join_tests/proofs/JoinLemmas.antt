@@ -1,5 +1,5 @@
 -- What a condition element's tests become, taken in one after another.
-use Rattle.std.proofs.Common.{◌≡◌, ℕ, ◌+◌, ◌<◌, List, [], ◌∷◌, ◌++◌, Bool, true, false, ◌==◌, Option, Some, None, length, take, get_or, slice_get, option_and_then, refl, sym, ◌∙◌, ap, subst}
+use Rattle.std.proofs.Common.{◌≡◌, ℕ, ◌+◌, List, [], ◌∷◌, ◌++◌, ◌==◌, Option, Some, None, option_and_then, refl, sym, ◌∙◌, ap}
 use Rattle.std.proofs.lemmas.List.Sums.{fold-append}
 use Rattle.rule_base.specs.declared.value.Value.{Value}
 use Rattle.rule_base.specs.declared.element.Element.{Element}
@@ -7,10 +7,11 @@ use Rattle.rule_base.specs.declared.condition.Test.{Test}
 use Rattle.rule_base.specs.declared.condition.Cond.{Cond}
 use Rattle.rule_base.specs.Chains.{only_if}
 use Rattle.rule_base.specs.Bindings.{Bindings}
-use Rattle.rule_base.specs.Acceptance.{accepts, after_test, after_tests}
+use Rattle.rule_base.specs.Acceptance.{after_test, after_tests}
 use Rattle.join_tests.specs.declared.joins.Join.{Join}
-use Rattle.join_tests.specs.Joining.{joins}
-use Rattle.join_tests.specs.Sources.{Sources, bindings_at, sources_after_test, sources_after_tests}
+use Rattle.join_tests.specs.Joining.{LooksBack, joins}
+use Rattle.join_tests.specs.Sources.{AreWithin, Sources, bindings_at, sources_after_test, sources_after_tests}
+use Rattle.join_tests.proofs.ReadingLemmas.{AreWithin-after_tests}
 use Rattle.join_tests.specs.Compiling.{AsksMore, IsJoin}
 
 -- one test more at the end
@@ -31,14 +32,16 @@ pub sources_after_tests-push : (number : ℕ) (before : Sources) (tests : List T
 sources_after_tests-push number before tests t = fold-append (sources_after_test number) before tests (t ∷ [])
 
 -- a condition element with no tests asks for the class alone
-pub IsJoin-class : (number : ℕ) (before : Sources) (cond : Cond) (join : Join) → ((es : List Element) (e : Element) → joins join es e ≡ (cond.class == e.class)) → IsJoin number before (record cond { tests = [] }) join
-IsJoin-class number before cond join class = record {
+pub IsJoin-class : (number : ℕ) (before : Sources) (cond : Cond) (join : Join) → ((es : List Element) (e : Element) → joins join es e ≡ (cond.class == e.class)) → ((n : ℕ) → LooksBack n join) → IsJoin number before (record cond { tests = [] }) join
+IsJoin-class number before cond join class back = record {
+  looks_back = λ within. back number;
   asks = λ es e long. one_test (only_if (cond.class == e.class) (bindings_at before (es ++ e ∷ []))) ∙ ap (λ h. only_if h (bindings_at before (es ++ e ∷ []))) (sym (class es e));
 }
 
 -- the tests so far, and one more
-pub IsJoin-push : (number : ℕ) (before : Sources) (cond : Cond) (tests : List Test) (t : Test) (join more : Join) → IsJoin number before (record cond { tests = tests }) join → AsksMore number (sources_after_tests number before tests) t join more → IsJoin number before (record cond { tests = tests ++ t ∷ [] }) more
-IsJoin-push number before cond tests t join more is asks_more = record {
+pub IsJoin-push : (number : ℕ) (before : Sources) (cond : Cond) (tests : List Test) (t : Test) (join more : Join) → IsJoin number before (record cond { tests = tests }) join → AsksMore number (sources_after_tests number before tests) t join more → (AreWithin (number + 1) (sources_after_tests number before tests) → LooksBack number join → LooksBack number more) → IsJoin number before (record cond { tests = tests ++ t ∷ [] }) more
+IsJoin-push number before cond tests t join more is asks_more back = record {
+  looks_back = λ within. back (AreWithin-after_tests number before tests within) (is.looks_back within);
   asks = λ es e long.
       let row = es ++ e ∷ [] in
       then_after tests t e.values (only_if (cond.class == e.class) (bindings_at before row)) (λ b. after_tests-push tests t b e.values)

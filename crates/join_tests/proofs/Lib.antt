@@ -8,4 +8,7 @@ pub mod JoinLemmas
 pub mod RuleLemmas
 pub mod RowLemmas
 pub mod MatchLemmas
+pub mod NegatedLemmas
 pub mod MeaningLemmas
+-- keys
+pub mod KeyLemmas

@@ -1,5 +1,5 @@
 -- Matches: a rule matches with elements of a memory that join, where no element there joins for a negated condition element.
-use Rattle.std.proofs.Common.{◌≡◌, ℕ, ◌+◌, List, [], ◌∷◌, ◌++◌, Bool, true, false, ◌&&◌, ◌||◌, not, Option, Some, None, Result, Ok, Err, is_some, is_ok, length, map, option_and_then, option_map, take, refl, sym, ◌∙◌, ap, subst, append_assoc}
+use Rattle.std.proofs.Common.{◌≡◌, ℕ, ◌+◌, List, [], ◌∷◌, ◌++◌, Bool, true, false, ◌&&◌, ◌||◌, not, Option, Some, Result, is_some, is_ok, length, map, option_and_then, option_map, take, refl, sym, ◌∙◌, ap, append_assoc}
 use Rattle.std.specs.List.{list_all, list_any}
 use Rattle.std.proofs.Math.Seq.{take-append_seam}
 use Rattle.rule_base.specs.declared.element.Element.{Element}
@@ -7,18 +7,18 @@ use Rattle.rule_base.specs.declared.condition.Cond.{Cond}
 use Rattle.rule_base.specs.declared.program.Rule.{Rule}
 use Rattle.rule_base.specs.Chains.{only_if}
 use Rattle.rule_base.specs.Memory.{Memory, element_at}
-use Rattle.rule_base.specs.Bindings.{Bindings, no_bindings}
+use Rattle.rule_base.specs.Bindings.{Bindings}
 use Rattle.rule_base.specs.Acceptance.{accepts}
 use Rattle.rule_base.specs.Match.{accepts_some, after_cond, go_on, match_from, match_of}
 use Rattle.join_tests.specs.declared.joins.Join.{Join}
 use Rattle.join_tests.specs.declared.joins.Negated.{Negated}
 use Rattle.join_tests.specs.Joining.{are_joined, each_joins, joins}
-use Rattle.join_tests.specs.Sources.{Sources, bindings_at, no_sources, sources_after_tests}
+use Rattle.join_tests.specs.Sources.{AreWithin, Sources, bindings_at, no_sources, sources_after_tests}
 use Rattle.join_tests.specs.Compiling.{IsJoin}
 use Rattle.join_tests.specs.Meaning.{is_free}
-use Rattle.join_tests.proofs.ReadingLemmas.{AreWithin, AreWithin-after_tests, AreWithin-none, bindings_at-none}
+use Rattle.join_tests.proofs.ReadingLemmas.{AreWithin-after_tests, AreWithin-none, bindings_at-none}
 use Rattle.join_tests.proofs.RuleLemmas.{Compiles, CompilesFirst}
-use Rattle.join_tests.proofs.RowLemmas.{accepts-joins, length-more}
+use Rattle.join_tests.proofs.RowLemmas.{accepts-joins, is_some_only_if, length-more}
 
 -- the tags are those of the elements
 abbrev AreAt : Memory → List ℕ → List Element → Type 0
@@ -29,17 +29,13 @@ any_same : {X : Type 0} (p q : X → Bool) (xs : List X) → ((x : X) → p x �
 any_same p q [] same = refl
 any_same p q (x ∷ xs) same = ap (λ b. b || list_any p xs) (same x) ∙ ap (λ b. q x || b) (any_same p q xs same)
 
-is_some_only_if : (b : Bool) (bindings : Bindings) → is_some (only_if b bindings) ≡ b
-is_some_only_if true bindings = refl
-is_some_only_if false bindings = refl
-
 -- the negated condition element accepts no element of the memory where none joins
 free : (number : ℕ) (before : Sources) (c : Cond) (n : Negated) (memory : Memory) (first es : List Element) → n.after ≡ number → IsJoin number before c n.join → length first ≡ number → AreWithin number before →
     not (accepts_some c (bindings_at before first) memory) ≡ is_free memory (first ++ es) n
 free number before c n memory first es place is long within =
     let after : (e : Element) → Bindings = λ e. bindings_at (sources_after_tests number before c.tests) (first ++ e ∷ []) in
     let same : (e : Element) → is_some (accepts c (bindings_at before first) e) ≡ joins n.join first e =
-        λ e. ap (λ (o : Option Bindings). is_some o) (accepts-joins number before c n.join first e is long within) ∙ is_some_only_if (joins n.join first e) (after e) in
+    λ e. ap (λ (o : Option Bindings). is_some o) (accepts-joins number before c n.join first e is long within) ∙ is_some_only_if (joins n.join first e) (after e) in
     let row : first ≡ take n.after (first ++ es) = sym (ap (λ m. take m (first ++ es)) (place ∙ sym long) ∙ take-append_seam first es) in
     ap not (any_same (λ (e : Element). is_some (accepts c (bindings_at before first) e)) (joins n.join first) memory same)
     ∙ ap (λ r. not (list_any (joins n.join r) memory)) row
@@ -82,7 +78,7 @@ by_sign false memory c conds rest at number before (join ∷ js) ns after first 
     ap (λ o. is_ok (go_on {A = List ℕ × Bindings} at (option_map (λ left. (tags, left)) (option_and_then (accepts c b) o)) (go at conds memory))) here
     ∙ ap (λ o. is_ok (go_on {A = List ℕ × Bindings} at (option_map (λ left. (tags, left)) o) (go at conds memory))) (accepts-joins number before c join first e compiles.0 long within)
     ∙ by_joined (joins join first e) (each_joins row js es) (list_all (is_free memory (row ++ es)) ns) at conds memory tags (bindings_at next row)
-        (rest (at + 1) (number + 1) next js ns after row tags es compiles.1 (length-more number first e long) (AreWithin-after_tests number before c.tests within) later)
+    (rest (at + 1) (number + 1) next js ns after row tags es compiles.1 (length-more number first e long) (AreWithin-after_tests number before c.tests within) later)
     ∙ ap (λ all. (joins join first e && each_joins row js es) && list_all (is_free memory all) ns) (append_assoc first (e ∷ []) es)
 
 matches : (memory : Memory) (conds : List Cond) → RestMatches memory conds

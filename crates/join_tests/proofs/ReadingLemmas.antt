@@ -1,6 +1,5 @@
 -- Values where they lie: in one more element, and as bindings.
-use Rattle.std.proofs.Common.{◌≡◌, ℕ, ◌+◌, ◌<◌, List, [], ◌∷◌, ◌++◌, Bool, true, false, Option, Some, None, length, map, is_some, nat_lt, option_map, slice_get, slice_set, suc, zero, refl, sym, ◌∙◌, ap, subst, arith}
-use Rattle.std.specs.List.{AllByRecursion}
+use Rattle.std.proofs.Common.{◌≡◌, ℕ, ◌+◌, ◌<◌, List, [], ◌∷◌, ◌++◌, Some, None, length, is_some, nat_lt, option_map, slice_get, slice_set, suc, zero, refl, ◌∙◌, ap, arith}
 use Rattle.std.specs.Option.{option_map_or}
 use Rattle.std.proofs.lemmas.Bool.Decides.{nat_tests}
 use Rattle.std.proofs.lemmas.List.{map-set}
@@ -12,7 +11,7 @@ use Rattle.rule_base.specs.Value.{nil}
 use Rattle.rule_base.specs.Bindings.{binding_of, bound, no_bindings}
 use Rattle.join_tests.specs.declared.joins.Source.{Source}
 use Rattle.join_tests.specs.Reading.{value_at, value_in}
-use Rattle.join_tests.specs.Sources.{Sources, bindings_at, no_sources, source_of, sources_after_test, sources_after_tests}
+use Rattle.join_tests.specs.Sources.{AreWithin, IsWithin, Sources, bindings_at, no_sources, source_of, sources_after_test, sources_after_tests}
 
 -- a list has an element at each place below its length
 pub lt_is_some : (values : List Value) (at : ℕ) → nat_lt at (length values) ≡ is_some (slice_get values at)
@@ -40,35 +39,31 @@ pub bindings_at-bound : (sources : Sources) (es : List Element) (var : ℕ) (sou
 bindings_at-bound sources es var source = map-set (option_map (value_in es)) sources var (Some source)
 
 -- what stood there stays there
-slice_get-first : (es : List Element) (e : Element) (i : ℕ) → i < length es → slice_get (es ++ e ∷ []) i ≡ slice_get es i
-slice_get-first [] e i lt = absurd (omega (arith, lt))
-slice_get-first (x ∷ es) e zero lt = refl
-slice_get-first (x ∷ es) e (suc i) lt = slice_get-first es e i (omega (arith, lt))
+slice_get-first : (es more : List Element) (i : ℕ) → i < length es → slice_get (es ++ more) i ≡ slice_get es i
+slice_get-first [] more i lt = absurd (omega (arith, lt))
+slice_get-first (x ∷ es) more zero lt = refl
+slice_get-first (x ∷ es) more (suc i) lt = slice_get-first es more i (omega (arith, lt))
 
--- each source lies in the elements for so many condition elements
-abbrev pub AreWithin : ℕ → Sources → Type 0
-AreWithin number [] = Unit {0}
-AreWithin number (None ∷ sources) = AreWithin number sources
-AreWithin number (Some source ∷ sources) = (source.condition < number) × AreWithin number sources
+pub value_in-first : (es more : List Element) (source : Source) → source.condition < length es → value_in (es ++ more) source ≡ value_in es source
+value_in-first es more source lt = ap (λ o. option_map_or (λ (x : Element). value_at x source.attribute) o nil) (slice_get-first es more source.condition lt)
 
--- so a further element changes none of the bindings
+-- so a further element changes no binding to a source before it
 pub bindings_at-push : (sources : Sources) (es : List Element) (e : Element) → AreWithin (length es) sources → bindings_at sources (es ++ e ∷ []) ≡ bindings_at sources es
 bindings_at-push [] es e within = refl
-bindings_at-push (None ∷ sources) es e within = ap (λ bs. None ∷ bs) (bindings_at-push sources es e within)
+bindings_at-push (None ∷ sources) es e within = ap (λ bs. None ∷ bs) (bindings_at-push sources es e within.1)
 bindings_at-push (Some source ∷ sources) es e within =
-    let same : value_in (es ++ e ∷ []) source ≡ value_in es source = ap (λ o. option_map_or (λ (x : Element). value_at x source.attribute) o nil) (slice_get-first es e source.condition within.0) in
-    ap (λ v. Some v ∷ bindings_at sources (es ++ e ∷ [])) same ∙ ap (λ bs. Some (value_in es source) ∷ bs) (bindings_at-push sources es e within.1)
+    ap (λ v. Some v ∷ bindings_at sources (es ++ e ∷ [])) (value_in-first es (e ∷ []) source within.0) ∙ ap (λ bs. Some (value_in es source) ∷ bs) (bindings_at-push sources es e within.1)
 
 AreWithin-more : (number : ℕ) (sources : Sources) → AreWithin number sources → AreWithin (number + 1) sources
 AreWithin-more number [] within = tt
-AreWithin-more number (None ∷ sources) within = AreWithin-more number sources within
+AreWithin-more number (None ∷ sources) within = (tt, AreWithin-more number sources within.1)
 AreWithin-more number (Some source ∷ sources) within = (omega (arith, within.0), AreWithin-more number sources within.1)
 
 AreWithin-set : (number : ℕ) (sources : Sources) (var : ℕ) (source : Source) → source.condition < number → AreWithin number sources → AreWithin number (slice_set sources var (Some source))
 AreWithin-set number [] var source lt within = tt
-AreWithin-set number (None ∷ sources) zero source lt within = (lt, within)
+AreWithin-set number (None ∷ sources) zero source lt within = (lt, within.1)
 AreWithin-set number (Some s ∷ sources) zero source lt within = (lt, within.1)
-AreWithin-set number (None ∷ sources) (suc var) source lt within = AreWithin-set number sources var source lt within
+AreWithin-set number (None ∷ sources) (suc var) source lt within = (tt, AreWithin-set number sources var source lt within.1)
 AreWithin-set number (Some s ∷ sources) (suc var) source lt within = (within.0, AreWithin-set number sources var source lt within.1)
 
 AreWithin-test : (number : ℕ) (sources : Sources) (t : Test) → AreWithin (number + 1) sources → AreWithin (number + 1) (sources_after_test number sources t)
@@ -87,8 +82,13 @@ AreWithin-after_tests number sources tests within = AreWithin-tests number sourc
 -- no sources at all
 pub AreWithin-none : (vars : ℕ) → AreWithin 0 (no_sources vars)
 AreWithin-none zero = tt
-AreWithin-none (suc vars) = AreWithin-none vars
+AreWithin-none (suc vars) = (tt, AreWithin-none vars)
 
 pub bindings_at-none : (vars : ℕ) → bindings_at (no_sources vars) [] ≡ no_bindings vars
 bindings_at-none zero = refl
 bindings_at-none (suc vars) = ap (λ bs. None ∷ bs) (bindings_at-none vars)
+
+pub IsWithin-source_of : (number : ℕ) (sources : Sources) (var : ℕ) → AreWithin number sources → IsWithin number (source_of sources var)
+IsWithin-source_of number [] var within = tt
+IsWithin-source_of number (s ∷ sources) zero within = within.0
+IsWithin-source_of number (s ∷ sources) (suc var) within = IsWithin-source_of number sources var within.1

@@ -1,20 +1,20 @@
 -- Rows: a rule takes elements where each joins those before it.
-use Rattle.std.proofs.Common.{◌≡◌, ℕ, ◌+◌, zero, suc, List, [], ◌∷◌, ◌++◌, Bool, true, false, ◌&&◌, cond, not, filter, Option, Some, None, is_some, length, option_and_then, option_map, slice_get, take, refl, sym, ◌∙◌, ap, subst, arith, length-append, append_assoc, append-nil}
+use Rattle.std.proofs.Common.{◌≡◌, ℕ, ◌+◌, zero, suc, List, [], ◌∷◌, ◌++◌, Bool, true, false, ◌&&◌, cond, not, filter, Some, is_some, length, option_and_then, option_map, slice_get, take, refl, sym, ◌∙◌, ap, subst, arith, length-append, append_assoc, append-nil}
 use Rattle.rule_base.specs.declared.element.Element.{Element}
 use Rattle.rule_base.specs.declared.condition.Cond.{Cond}
 use Rattle.rule_base.specs.declared.program.Rule.{Rule}
 use Rattle.rule_base.specs.Chains.{only_if}
 use Rattle.rule_base.specs.Bindings.{Bindings, no_bindings}
 use Rattle.rule_base.specs.Acceptance.{accepts}
-use Rattle.rule_base.specs.ElementMatch.{after_element, bindings_with, matched}
+use Rattle.rule_base.specs.ElementMatch.{after_element, matched}
 use Rattle.rule_base.proofs.StepByStepLemmas.{take_next}
 use Rattle.join_tests.specs.declared.joins.Join.{Join}
 use Rattle.join_tests.specs.declared.joins.Negated.{Negated}
 use Rattle.join_tests.specs.Joining.{are_joined, each_joins, joins}
-use Rattle.join_tests.specs.Sources.{Sources, bindings_at, no_sources, sources_after_tests}
+use Rattle.join_tests.specs.Sources.{AreWithin, Sources, bindings_at, no_sources, sources_after_tests}
 use Rattle.join_tests.specs.Compiling.{IsJoin}
 use Rattle.join_tests.specs.Meaning.{first_positives}
-use Rattle.join_tests.proofs.ReadingLemmas.{AreWithin, AreWithin-after_tests, AreWithin-none, bindings_at-none, bindings_at-push}
+use Rattle.join_tests.proofs.ReadingLemmas.{AreWithin-after_tests, AreWithin-none, bindings_at-none, bindings_at-push}
 use Rattle.join_tests.proofs.RuleLemmas.{Compiles, CompilesFirst}
 
 -- one element more
@@ -26,6 +26,10 @@ pub accepts-joins : (number : ℕ) (before : Sources) (c : Cond) (join : Join) (
     accepts c (bindings_at before first) e ≡ only_if (joins join first e) (bindings_at (sources_after_tests number before c.tests) (first ++ e ∷ []))
 accepts-joins number before c join first e is long within =
     ap (λ b. accepts c b e) (sym (bindings_at-push before first e (subst (λ n. AreWithin n before) (sym long) within))) ∙ is.asks first e long
+
+pub is_some_only_if : (b : Bool) (bindings : Bindings) → is_some (only_if b bindings) ≡ b
+is_some_only_if true bindings = refl
+is_some_only_if false bindings = refl
 
 -- the elements that are left are taken where each joins those before it
 abbrev RestIsJoined : List Cond → Type 0
@@ -83,23 +87,34 @@ Compiles-first [] after n number before (join ∷ js) ns compiles = absurd compi
 Compiles-first (c ∷ conds) after n number before js ns compiles = first_by_sign c.negated c conds n number before js ns after refl (λ m number' before' js' ns'. Compiles-first conds after m number' before' js' ns') compiles
 
 -- one element more joins those that are joined
-both : (a b : Bool) → (a && b) ≡ true → (a ≡ true) × (b ≡ true)
-both true b is = (refl, is)
-both false b is = absurd (let wrong : ⊥ = cc in wrong)
-
 then_true : (b : Bool) → (b && true) ≡ b
 then_true true = refl
 then_true false = refl
 
-each_joins-push : (first : List Element) (js : List Join) (es : List Element) (join : Join) (e : Element) → each_joins first js es ≡ true → each_joins first (js ++ join ∷ []) (es ++ e ∷ []) ≡ joins join (first ++ es) e
-each_joins-push first [] [] join e is = then_true (joins join first e) ∙ ap (λ row. joins join row e) (sym (append-nil first))
-each_joins-push first [] (x ∷ es) join e is = absurd (let wrong : ⊥ = cc in wrong)
-each_joins-push first (j ∷ js) [] join e is = absurd (let wrong : ⊥ = cc in wrong)
-each_joins-push first (j ∷ js) (x ∷ es) join e is =
-    let parts = both (joins j first x) (each_joins (first ++ x ∷ []) js es) is in
-    ap (λ b. b && each_joins (first ++ x ∷ []) (js ++ join ∷ []) (es ++ e ∷ [])) parts.0
-    ∙ each_joins-push (first ++ x ∷ []) js es join e parts.1
-    ∙ ap (λ row. joins join row e) (append_assoc first (x ∷ []) es)
+then_false : (b : Bool) → (b && false) ≡ false
+then_false true = refl
+then_false false = refl
+
+and_assoc : (a b c : Bool) → (a && (b && c)) ≡ ((a && b) && c)
+and_assoc true b c = refl
+and_assoc false b c = refl
+
+too_many : (first es : List Element) (e : Element) → each_joins first [] (es ++ e ∷ []) ≡ false
+too_many first [] e = refl
+too_many first (x ∷ es) e = refl
+
+too_few : (first : List Element) (js : List Join) (join : Join) → each_joins first (js ++ join ∷ []) [] ≡ false
+too_few first [] join = refl
+too_few first (j ∷ js) join = refl
+
+pub each_joins-push : (first : List Element) (js : List Join) (es : List Element) (join : Join) (e : Element) → each_joins first (js ++ join ∷ []) (es ++ e ∷ []) ≡ (each_joins first js es && joins join (first ++ es) e)
+each_joins-push first [] [] join e = then_true (joins join first e) ∙ ap (λ row. joins join row e) (sym (append-nil first))
+each_joins-push first [] (x ∷ es) join e = ap (λ b. joins join first x && b) (too_many (first ++ x ∷ []) es e) ∙ then_false (joins join first x)
+each_joins-push first (j ∷ js) [] join e = ap (λ b. joins j first e && b) (too_few (first ++ e ∷ []) js join) ∙ then_false (joins j first e)
+each_joins-push first (j ∷ js) (x ∷ es) join e =
+    ap (λ b. joins j first x && b) (each_joins-push (first ++ x ∷ []) js es join e)
+    ∙ ap (λ row. joins j first x && (each_joins (first ++ x ∷ []) js es && joins join row e)) (append_assoc first (x ∷ []) es)
+    ∙ and_assoc (joins j first x) (each_joins (first ++ x ∷ []) js es) (joins join (first ++ x ∷ es) e)
 
 -- what the first joins of a rule say
 pub matched-first : (rule : Rule) (js : List Join) (ns : List Negated) (after : Sources) (n : ℕ) (es : List Element) → Compiles 0 (no_sources rule.vars) rule.conds js ns after → is_some (matched (first_positives n rule) es (no_bindings rule.vars)) ≡ are_joined (take n js) es
@@ -112,4 +127,5 @@ pub matched-next : (rule : Rule) (js : List Join) (ns : List Negated) (after : S
 matched-next rule js ns after n join es e compiles at is =
     matched-first rule js ns after (n + 1) (es ++ e ∷ []) compiles
     ∙ ap (λ all. are_joined all (es ++ e ∷ [])) (take_next js n join at)
-    ∙ each_joins-push [] (take n js) es join e (sym (matched-first rule js ns after n es compiles) ∙ is)
+    ∙ each_joins-push [] (take n js) es join e
+    ∙ ap (λ b. b && joins join es e) (sym (matched-first rule js ns after n es compiles) ∙ is)

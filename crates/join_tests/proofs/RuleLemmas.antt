@@ -1,10 +1,13 @@
 -- What a rule's condition elements become, taken in one after another.
-use Rattle.std.proofs.Common.{◌≡◌, ℕ, ◌+◌, zero, suc, List, [], ◌∷◌, ◌++◌, Bool, true, false, cond, not, filter, length, take, refl, sym, ◌∙◌, ap, subst, arith}
+use Rattle.std.proofs.Common.{◌≡◌, ℕ, ◌+◌, zero, suc, List, [], ◌∷◌, ◌++◌, Bool, true, false, Some, length, slice_get, refl, sym, ◌∙◌, ap, subst, arith}
+use Rattle.std.specs.List.{AllByRecursion}
 use Rattle.rule_base.specs.declared.condition.Cond.{Cond}
 use Rattle.join_tests.specs.declared.joins.Join.{Join}
 use Rattle.join_tests.specs.declared.joins.Joins.{Joins}
 use Rattle.join_tests.specs.declared.joins.Negated.{Negated}
-use Rattle.join_tests.specs.Sources.{Sources, sources_after_tests}
+use Rattle.join_tests.specs.Joining.{LooksBack}
+use Rattle.join_tests.specs.Sources.{AreWithin, Sources, sources_after_tests}
+use Rattle.join_tests.proofs.ReadingLemmas.{AreWithin-after_tests}
 use Rattle.join_tests.specs.Compiling.{IsJoin, TakesIn}
 
 -- what holds from a number of positive condition elements and the sources after them on, of the joins to come
@@ -93,3 +96,36 @@ by_sign false conds start further old new before after sign takes compiles =
 
 pub Compiles-TakesIn : (conds : List Cond) (start : Sources) (further : Cond) (old new : Joins) (before after : Sources) → TakesIn further.negated further old before new after → Compiles 0 start conds old.positives old.negated before → Compiles 0 start (conds ++ further ∷ []) new.positives new.negated after
 Compiles-TakesIn conds start further old new before after takes compiles = by_sign further.negated conds start further old new before after refl takes compiles
+
+-- the joins look back at the elements before their own
+pub record LookBack (number : ℕ) (js : List Join) (ns : List Negated) : Type 0 where
+  pub positives : (n : ℕ) (join : Join) → slice_get js n ≡ Some join → LooksBack (number + n) join
+  pub negated : AllByRecursion (λ (n : Negated). LooksBack n.after n.join) ns
+
+back_at : (number : ℕ) (join : Join) (js : List Join) → LooksBack number join → ((n : ℕ) (x : Join) → slice_get js n ≡ Some x → LooksBack (number + 1 + n) x) → (n : ℕ) (x : Join) → slice_get (join ∷ js) n ≡ Some x → LooksBack (number + n) x
+back_at number join js here later zero x at =
+    let same : join ≡ x = cc in
+    let place : number ≡ number + zero = omega arith in
+    subst (λ n. LooksBack n x) place (subst (LooksBack number) same here)
+back_at number join js here later (suc n) x at =
+    let place : number + 1 + n ≡ number + suc n = omega arith in
+    subst (λ m. LooksBack m x) place (later n x at)
+
+back_by_sign : (sign : Bool) (c : Cond) (conds : List Cond) (number : ℕ) (before : Sources) (js : List Join) (ns : List Negated) (after : Sources) → AreWithin number before →
+    ((number' : ℕ) (before' : Sources) (js' : List Join) (ns' : List Negated) → AreWithin number' before' → Compiles number' before' conds js' ns' after → LookBack number' js' ns') →
+    CompilesFirst sign number before c js ns (λ number' before' js' ns'. Compiles number' before' conds js' ns' after) → LookBack number js ns
+back_by_sign true c conds number before js [] after within rest compiles = absurd compiles
+back_by_sign true c conds number before js (n ∷ ns) after within rest compiles =
+    let later = rest number before js ns within compiles.2 in
+    record { positives = later.positives; negated = (subst (λ place. LooksBack place n.join) (sym compiles.0) (compiles.1.looks_back within), later.negated) }
+back_by_sign false c conds number before [] ns after within rest compiles = absurd compiles
+back_by_sign false c conds number before (join ∷ js) ns after within rest compiles =
+    let later = rest (number + 1) (sources_after_tests number before c.tests) js ns (AreWithin-after_tests number before c.tests within) compiles.1 in
+    record { positives = back_at number join js (compiles.0.looks_back within) later.positives; negated = later.negated }
+
+pub look_back : (conds : List Cond) (number : ℕ) (before : Sources) (js : List Join) (ns : List Negated) (after : Sources) → AreWithin number before → Compiles number before conds js ns after → LookBack number js ns
+look_back [] number before [] [] after within compiles = record { positives = λ n join at. absurd (let wrong : ⊥ = cc in wrong); negated = tt }
+look_back [] number before [] (n ∷ ns) after within compiles = absurd compiles
+look_back [] number before (join ∷ js) ns after within compiles = absurd compiles
+look_back (c ∷ conds) number before js ns after within compiles =
+    back_by_sign c.negated c conds number before js ns after within (λ number' before' js' ns' within' compiles'. look_back conds number' before' js' ns' after within' compiles') compiles

@@ -1,5 +1,5 @@
 -- Compiling: what a condition element's tests become, and that it asks for the same.
-use Rattle.std.specs.Prelude.{◌≡◌, ℕ, List, [], ◌∷◌, ◌++◌, Bool, true, false, ◌&&◌, nat_lt, length, Option, option_and_then}
+use Rattle.std.specs.Prelude.{◌≡◌, ℕ, ◌<◌, List, [], ◌∷◌, ◌++◌, Bool, true, false, ◌&&◌, nat_lt, length, Option, option_and_then}
 use Rattle.std.specs.Option.{option_map_or}
 use Rattle.rule_base.specs.declared.element.Element.{Element}
 use Rattle.rule_base.specs.declared.condition.Pred.{Pred}
@@ -10,16 +10,14 @@ use Rattle.rule_base.specs.declared.condition.Cond.{Cond}
 use Rattle.rule_base.specs.Chains.{only_if}
 use Rattle.rule_base.specs.Predicate.{holds}
 use Rattle.rule_base.specs.Acceptance.{accepts, after_test, compared_with}
-use Rattle.join_tests.specs.declared.joins.KeyPart.{KeyPart}
-use Rattle.join_tests.specs.declared.joins.JoinTest.{JoinTest}
 use Rattle.join_tests.specs.declared.joins.Join.{Join}
 use Rattle.join_tests.specs.declared.joins.Joins.{Joins}
 use Rattle.join_tests.specs.declared.joins.Source.{Source}
 use Rattle.join_tests.specs.declared.compile.Part.{Part}
 use Rattle.join_tests.specs.declared.compile.Part.TheVariants.{Nothing, Lone, Equal, Compare}
 use Rattle.join_tests.specs.Reading.{value_at, value_in}
-use Rattle.join_tests.specs.Joining.{joins, lone_holds, same_key, tests_hold}
-use Rattle.join_tests.specs.Sources.{Sources, bindings_at, sources_after_test, sources_after_tests}
+use Rattle.join_tests.specs.Joining.{IsOther, LooksBack, joins, lone_holds, same_key, tests_hold}
+use Rattle.join_tests.specs.Sources.{AreWithin, Sources, bindings_at, sources_after_test, sources_after_tests}
 
 -- the attribute that a test looks at
 abbrev pub attribute_of : Test → ℕ
@@ -33,6 +31,13 @@ part_holds es e Nothing = true
 part_holds es e (Lone t) = lone_holds e t
 part_holds es e (Equal part) = same_key (part ∷ []) es e
 part_holds es e (Compare t) = tests_hold (t ∷ []) es e
+
+-- the part looks back at the elements for so many condition elements, and is no equality outside the key
+abbrev pub PartLooksBack : ℕ → Part → Type 0
+PartLooksBack number Nothing = Unit {0}
+PartLooksBack number (Lone t) = Unit {0}
+PartLooksBack number (Equal part) = part.source.condition < number
+PartLooksBack number (Compare t) = IsOther number t
 
 -- the part compares the element's value at the attribute with the value at the source, and holds nowhere if there is
 -- no source; the element itself has this number
@@ -59,6 +64,7 @@ AsksMore number before t join more = (es : List Element) (e : Element) → lengt
 -- the elements before it, of which there are so many
 pub record IsJoin (number : ℕ) (before : Sources) (cond : Cond) (join : Join) : Type 0 where
   pub asks : (es : List Element) (e : Element) → length es ≡ number → accepts cond (bindings_at before (es ++ e ∷ [])) e ≡ only_if (joins join es e) (bindings_at (sources_after_tests number before cond.tests) (es ++ e ∷ []))
+  pub looks_back : AreWithin number before → LooksBack number join
 
 -- a condition element of either sign is taken in, with the sources before and after it: what a negated one binds is
 -- forgotten

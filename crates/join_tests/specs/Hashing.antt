@@ -5,10 +5,10 @@ use mir.Syntax.{w64}
 use Rattle.rule_base.specs.declared.value.Value.{Value}
 use Rattle.rule_base.specs.declared.value.Value.TheVariants.{Int, Sym}
 
--- a number for the value: even ones for integers and odd ones for symbols
+-- a number for the value: an integer's own bits, and a symbol's number from 2 ^ 63 on
 abbrev pub code_of : Value → ℕ
-code_of (Int n) = (cast_unsigned w64 n * 2) % 2 ^ 64
-code_of (Sym symbol) = 2 * symbol + 1
+code_of (Int n) = cast_unsigned w64 n
+code_of (Sym symbol) = 2 ^ 63 + symbol
 
 -- the hash once one more value is mixed in
 abbrev pub mixed : ℕ → Value → ℕ

@@ -1,10 +1,10 @@
 -- Joining: when an element joins elements for the positive condition elements before its own.
-use Rattle.std.specs.Prelude.{List, [], ◌∷◌, ◌++◌, Bool, true, false, ◌&&◌, ◌==◌, nat_le, length, map}
-use Rattle.std.specs.List.{list_all, list_any}
+use Rattle.std.specs.Prelude.{◌≡◌, ℕ, ◌<◌, List, [], ◌∷◌, ◌++◌, Bool, true, false, ◌&&◌, ◌==◌, nat_le, length, map}
+use Rattle.std.specs.List.{AllByRecursion, list_all, list_any}
 use Rattle.rule_base.specs.declared.value.Value.{Value}
 use Rattle.rule_base.specs.declared.element.Element.{Element}
 use Rattle.rule_base.specs.Value.{same_value}
-use Rattle.rule_base.specs.Predicate.{holds}
+use Rattle.rule_base.specs.Predicate.{holds, is_equality}
 use Rattle.join_tests.specs.declared.joins.LoneTest.{LoneTest}
 use Rattle.join_tests.specs.declared.joins.LoneTest.TheVariants.{Constant, OneOf, Within}
 use Rattle.join_tests.specs.declared.joins.Pattern.{Pattern}
@@ -42,6 +42,15 @@ same_key key es e = list_all (λ (part : KeyPart). same_value (value_at e part.a
 -- whether all comparisons with the elements before it hold
 abbrev pub tests_hold : List JoinTest → List Element → Element → Bool
 tests_hold tests es e = list_all (λ (t : JoinTest). holds t.predicate (value_at e t.attribute) (value_in es t.source)) tests
+
+-- a comparison with elements for so many condition elements that is no equality
+abbrev pub IsOther : ℕ → JoinTest → Type 0
+IsOther number t = (t.source.condition < number) × (is_equality t.predicate ≡ false)
+
+-- the join looks back at the elements for so many condition elements, and every equality with them is a part of its key
+pub record LooksBack (number : ℕ) (join : Join) : Type 0 where
+  pub key : AllByRecursion (λ (part : KeyPart). part.source.condition < number) join.key
+  pub tests : AllByRecursion (IsOther number) join.tests
 
 -- whether the element joins these
 abbrev pub joins : Join → List Element → Element → Bool

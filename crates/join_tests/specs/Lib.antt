@@ -10,3 +10,5 @@ pub mod Sources
 pub mod Compiling
 -- what a compiled rule means
 pub mod Meaning
+-- laws of keys and rows
+pub mod JoinLaws

@@ -1,5 +1,6 @@
 -- Sources: where the variables of a rule have their values, by the variables' numbers.
-use Rattle.std.specs.Prelude.{◌≡◌, ℕ, List, Bool, true, false, Option, Some, None, fold, map, option_map, replicate, slice_get, slice_set}
+use Rattle.std.specs.Prelude.{ℕ, ◌<◌, List, Option, Some, None, fold, map, option_map, replicate, slice_get, slice_set}
+use Rattle.std.specs.List.{AllByRecursion}
 use Rattle.std.specs.Option.{option_flatten}
 use Rattle.rule_base.specs.declared.element.Element.{Element}
 use Rattle.rule_base.specs.declared.condition.Test.{Test}
@@ -18,6 +19,15 @@ no_sources vars = replicate vars None
 -- the variable's source, if it has one
 abbrev pub source_of : Sources → ℕ → Option Source
 source_of sources var = option_flatten (slice_get sources var)
+
+-- the source lies in the elements for so many condition elements, if there is one
+abbrev pub IsWithin : ℕ → Option Source → Type 0
+IsWithin number None = Unit {0}
+IsWithin number (Some source) = source.condition < number
+
+-- each source does
+abbrev pub AreWithin : ℕ → Sources → Type 0
+AreWithin number sources = AllByRecursion (IsWithin number) sources
 
 -- the sources after a test of the positive condition element with this number, or of a negated one before it
 abbrev pub sources_after_test : ℕ → Sources → Test → Sources

@@ -1,10 +1,10 @@
 //! Rules as joins: each variable is read at the element that bound it.
 
-ghost use Rattle.std.specs.Prelude.{◌≡◌, ◌&&◌, List, IfOk, OnOk, length, nat_lt, ◌==◌};
+ghost use Rattle.std.specs.Prelude.{◌≡◌, ℕ, ◌+◌, ◌&&◌, List, IfOk, OnOk, length, nat_lt, ◌==◌};
 ghost use Rattle.rule_base.specs.declared.element.Element.{Element};
-ghost use Rattle.join_tests.specs.Joining.{joins};
-ghost use Rattle.join_tests.specs.Sources.{source_of, sources_after_test, sources_after_tests};
-ghost use Rattle.join_tests.specs.Compiling.{attribute_of, part_holds, AsksMore, Compares, IsComparison, IsJoin, IsPart, TakesIn};
+ghost use Rattle.join_tests.specs.Joining.{LooksBack, joins};
+ghost use Rattle.join_tests.specs.Sources.{AreWithin, IsWithin, source_of, sources_after_test, sources_after_tests};
+ghost use Rattle.join_tests.specs.Compiling.{attribute_of, part_holds, AsksMore, Compares, IsComparison, IsJoin, PartLooksBack, IsPart, TakesIn};
 ghost use Rattle.join_tests.specs.Meaning.{IsCompiled};
 
 use crate::{Join, JoinTest, Joins, KeyPart, LoneTest, Negated, Pattern, Source};
@@ -85,7 +85,9 @@ fn add_test(
     join: &mut Join,
     sources: &[Option<Source>],
 ) -> Result<(), OutOfMemory>
-    ensures { OnOk result (AsksMore number sources.now test.now join.old join.new) }
+    ensures asks { OnOk result (AsksMore number sources.now test.now join.old join.new) }
+    ensures back { OnOk result (AreWithin (number + 1) sources.now
+        → LooksBack number join.old → LooksBack number join.new) }
 {
     let part = part_of(alloc, test, number, sources)?;
     join.need(attribute_of(test));
@@ -128,7 +130,8 @@ fn part_of(
     number: usize,
     sources: &[Option<Source>],
 ) -> Result<Part, OutOfMemory>
-    ensures { IfOk result (IsPart number sources.now test.now) }
+    ensures part { IfOk result (IsPart number sources.now test.now) }
+    ensures back { IfOk result (λ part. AreWithin (number + 1) sources.now → PartLooksBack number part) }
 {
     match test {
         Test::Bind { attr: _, var: _ } => Ok(Part::Nothing),
@@ -151,7 +154,8 @@ fn part_of_comparison(
     arg: Arg,
     sources: &[Option<Source>],
 ) -> Part
-    ensures { Compares number attribute predicate arg sources.now result }
+    ensures compares { Compares number attribute predicate arg sources.now result }
+    ensures back { AreWithin (number + 1) sources.now → PartLooksBack number result }
 {
     match arg {
         Arg::Con(value) => Part::Lone(LoneTest::Constant {
@@ -182,7 +186,8 @@ fn comparison(
     predicate: Pred,
     source: Option<Source>,
 ) -> Part
-    ensures { IsComparison number attribute predicate source result }
+    ensures compares { IsComparison number attribute predicate source result }
+    ensures back { IsWithin (number + 1) source → PartLooksBack number result }
 {
     match source {
         None => Part::Lone(LoneTest::OneOf {
@@ -212,7 +217,8 @@ fn comparison(
 impl Join {
     /// A join that asks for the class alone.
     fn new(alloc: Global, class: u32) -> Join
-        ensures { (es : List Element) (e : Element) → joins result es e ≡ (class == e.class) }
+        ensures asks { (es : List Element) (e : Element) → joins result es e ≡ (class == e.class) }
+        ensures back { (n : ℕ) → LooksBack n result }
     {
         Join {
             pattern: Pattern {
@@ -227,8 +233,9 @@ impl Join {
 
     /// Asks for a value at this attribute, besides.
     fn need(&mut self, attribute: u32)
-        ensures { (es : List Element) (e : Element) → joins self.new es e
+        ensures asks { (es : List Element) (e : Element) → joins self.new es e
             ≡ (joins self.old es e && nat_lt attribute (length e.values)) }
+        ensures back { (n : ℕ) → LooksBack n self.old → LooksBack n self.new }
     {
         let size = attribute as usize + 1;
         if self.pattern.size < size {
@@ -238,8 +245,9 @@ impl Join {
 
     /// Asks for the part, besides.
     fn add(&mut self, part: Part) -> Result<(), OutOfMemory>
-        ensures { OnOk result ((es : List Element) (e : Element) → joins self.new es e
+        ensures asks { OnOk result ((es : List Element) (e : Element) → joins self.new es e
             ≡ (joins self.old es e && part_holds es e part)) }
+        ensures back { OnOk result ((n : ℕ) → LooksBack n self.old → PartLooksBack n part → LooksBack n self.new) }
     {
         match part {
             Part::Nothing => Ok(()),

@@ -12,6 +12,9 @@ use rule_base::{ElementView, Value};
 /// An odd number with bits in no pattern: 2 ^ 64 by the golden ratio.
 const FACTOR: u64 = 0x9e37_79b9_7f4a_7c15;
 
+/// Where the numbers for symbols begin, far from those for small integers.
+const FIRST_SYMBOL: u64 = 0x8000_0000_0000_0000;
+
 /// The hash of what an element brings to a key.
 pub fn element_hash(key: &[KeyPart], element: ElementView<'_>) -> u64
     ensures { result ≡ hash_of (key_of_element key.now (element_in element.entry)) }
@@ -46,7 +49,7 @@ fn code_of(value: Value) -> u64
     ensures { result ≡ code_of value }
 {
     match value {
-        Value::Int(number) => number.cast_unsigned().wrapping_mul(2),
-        Value::Sym(symbol) => 2 * symbol as u64 + 1,
+        Value::Int(number) => number.cast_unsigned(),
+        Value::Sym(symbol) => FIRST_SYMBOL + symbol as u64,
     }
 }

@@ -5,9 +5,9 @@ ghost use Rattle.std.specs.List.{list_all, list_any};
 ghost use Rattle.rule_base.specs.Value.{same_value};
 ghost use Rattle.rule_base.specs.Views.{element_in};
 ghost use Rattle.join_tests.specs.Reading.{value_at, value_in};
-ghost use Rattle.join_tests.specs.Joining.{fits, lone_holds, passes, same_key, tests_hold};
+ghost use Rattle.join_tests.specs.Joining.{fits, joins, lone_holds, passes, same_key, tests_hold};
 
-use crate::{JoinTest, KeyPart, LoneTest, Pattern, Row, Source};
+use crate::{Join, JoinTest, KeyPart, LoneTest, Pattern, Row, Source};
 use element_tests::holds;
 use rule_base::{ElementView, Pred, Value};
 
@@ -108,4 +108,15 @@ pub fn tests_hold<R: Row>(tests: &[JoinTest], row: &R, element: ElementView<'_>)
             value_in(row, test.source),
         )
     })
+}
+
+impl Join {
+    /// Whether the element joins the row.
+    pub fn admits<R: Row>(&self, row: &R, element: ElementView<'_>) -> bool
+        ensures { result ≡ joins self.now (R.elements row.now) (element_in element.entry) }
+    {
+        passes(&self.pattern, element)
+            && same_key(self.key.as_slice(), row, element)
+            && tests_hold(self.tests.as_slice(), row, element)
+    }
 }

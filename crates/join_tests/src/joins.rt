@@ -21,7 +21,10 @@ pub enum LoneTest {
         value: Value,
     },
     /// Asks for one of these values.
-    OneOf { attribute: u32, among: Sequence<Value> },
+    OneOf {
+        attribute: u32,
+        among: Sequence<Value>,
+    },
     /// Compares an attribute's value with that of another attribute of the same element.
     Within {
         attribute: u32,

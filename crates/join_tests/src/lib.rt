@@ -5,9 +5,12 @@
 
 mod compile;
 mod hashing;
-mod joins;
 mod joining;
+mod joins;
+pub mod laws;
 mod row;
+#[cfg(test)]
+mod tests;
 
 pub use hashing::{element_hash, row_hash};
 pub use joining::{passes, same_key, tests_hold};

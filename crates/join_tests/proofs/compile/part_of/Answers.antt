@@ -7,16 +7,16 @@ use Rattle.join_tests.specs.Compiling.{IsPart}
 use Rattle.join_tests.proofs.PartLemmas.{IsPart-Bind, IsPart-Cmp, IsPart-OneOf}
 use Rattle.join_tests.proofs.compile.part_of.Goals as goal
 
-pub returns-in-Bind : goal.returns-in-Bind
-returns-in-Bind c = subst (λ t. IsPart c.args.number c.args.sources.now t Nothing) (sym c.in-Bind.is) (IsPart-Bind c.args.number c.args.sources.now c.in-Bind.attr c.in-Bind.var)
+pub returns-in-Bind-clause-part : goal.returns-in-Bind-clause-part
+returns-in-Bind-clause-part c = subst (λ t. IsPart c.args.number c.args.sources.now t Nothing) (sym c.in-Bind.is) (IsPart-Bind c.args.number c.args.sources.now c.in-Bind.attr c.in-Bind.var)
 
-pub returns-in-Cmp : goal.returns-in-Cmp
-returns-in-Cmp c =
+pub returns-in-Cmp-clause-part : goal.returns-in-Cmp-clause-part
+returns-in-Cmp-clause-part c =
     subst (λ t. IsPart c.args.number c.args.sources.now t c.part_of_comparison.result) (sym c.in-Cmp.is)
-    (IsPart-Cmp c.args.number c.args.sources.now c.in-Cmp.attr c.in-Cmp.pred c.in-Cmp.arg c.part_of_comparison.result c.part_of_comparison.ensures)
+    (IsPart-Cmp c.args.number c.args.sources.now c.in-Cmp.attr c.in-Cmp.pred c.in-Cmp.arg c.part_of_comparison.result c.part_of_comparison.ensures.compares)
 
-pub returns-in_ok-duplicate-in-OneOf : goal.returns-in_ok-duplicate-in-OneOf
-returns-in_ok-duplicate-in-OneOf c =
+pub returns-in_ok-duplicate-in-OneOf-clause-part : goal.returns-in_ok-duplicate-in-OneOf-clause-part
+returns-in_ok-duplicate-in-OneOf-clause-part c =
     let attr = c.in-OneOf.attr in
     subst (λ t. IsPart c.args.number c.args.sources.now t (Lone (lone.OneOf attr c.in_ok-duplicate-in-OneOf.field-0))) (sym c.in-OneOf.is)
     (subst (λ among. IsPart c.args.number c.args.sources.now (OneOf attr c.in-OneOf.among) (Lone (lone.OneOf attr among))) (sym c.in_ok-duplicate-in-OneOf.ensures)

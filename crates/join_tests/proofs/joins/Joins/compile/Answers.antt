@@ -18,7 +18,7 @@ loop-cond-preserved c =
     let start = no_sources c.args.rule.now.vars in
     let more : take (i + 1) conds ≡ take i conds ++ further ∷ [] = take_to_place conds i further (search rules) (c.cond-item.is ∙ ap (λ cs. get_or cs i further) c.as_slice-cond-items.ensures) in
     let takes : TakesIn further.negated further c.loop-cond.joins c.loop-cond.sources.items joins c.take_in.new.sources =
-        subst (λ s. TakesIn further.negated further c.loop-cond.joins s joins c.take_in.new.sources) c.as_mut_slice.ensures.value c.in_ok-take_in.ensures in
+    subst (λ s. TakesIn further.negated further c.loop-cond.joins s joins c.take_in.new.sources) c.as_mut_slice.ensures.value c.in_ok-take_in.ensures in
     let written : (with_items c.loop-cond.sources c.take_in.new.sources).items ≡ c.take_in.new.sources = with_items_is c.loop-cond.sources c.take_in.new.sources (search rules) in
     subst (λ s. Compiles 0 start (take (i + 1) conds) joins.positives joins.negated s) (sym written)
     (subst (λ cs. Compiles 0 start cs joins.positives joins.negated c.take_in.new.sources) (sym more)

@@ -1,5 +1,5 @@
 -- The condition elements so far are compiled.
-use Rattle.std.proofs.Common.{[], take}
+use Rattle.std.proofs.Common.{take}
 use Rattle.join_tests.specs.Sources.{no_sources}
 use Rattle.join_tests.proofs.RuleLemmas.{Compiles}
 use Rattle.join_tests.proofs.joins.Joins.compile.Given as goal
