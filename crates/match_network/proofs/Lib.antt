@@ -1,0 +1,24 @@
+-- how often something is in a list
+pub mod TimesLemmas
+-- rows of one place more, and rows of elements that came
+pub mod RowLemmas
+pub mod ComeLemmas
+-- what a weave makes, and what it leaves of levels
+pub mod WeaveLemmas
+pub mod LevelLemmas
+-- rows of one width in one list
+pub mod TableLemmas
+-- tags that rise
+pub mod TagLemmas
+-- levels while rows are added, and what their buckets hold
+pub mod SoFarLemmas
+pub mod FiledLemmas
+-- the levels of a rule, by their numbers
+pub mod ConditionLemmas
+pub mod GivenLemmas
+pub mod WayLemmas
+-- what is filed as elements come and go
+pub mod FilingLemmas
+-- levels with no rows
+pub mod StartLemmas
+pub mod TriedLemmas

@@ -1,0 +1,22 @@
+-- how often something is in a list
+pub mod Times
+-- rows of places, and which of them are partial matches
+pub mod Row
+-- the rows that a place makes, and the levels that hold them
+pub mod Woven
+pub mod Levels
+-- what weaving gives, as laws
+pub mod Laws
+-- rows of one width in one list
+pub mod RowTable
+-- the elements that came, and the places in working memory
+pub mod Arrivals
+-- what is filed under the hashes of keys
+pub mod Filed
+pub mod SoFar
+pub mod Joining
+-- the levels of a rule
+pub mod Conditions
+pub mod FilingLaws
+-- what is tried and counted
+pub mod Tried

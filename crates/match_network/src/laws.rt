@@ -1,0 +1,28 @@
+//! Laws of what the levels hold. Each function here does nothing: its contract is the law.
+
+ghost use Rattle.match_network.specs.FilingLaws.{LevelsMeetArrivals, LevelsMeetRemovals, StoresMeetArrivals, StoresMeetRemovals};
+ghost use Rattle.match_network.specs.Laws.{AddingGoesOn, DeadMayGo, PlacesMayGo, WeavingBegins, WeavingEnds, WeavingGoesOn, WeavingMayStop};
+
+/// Weaving a place in at each condition element where its element may join, in any order and once at
+/// each, makes levels of the memory with it from those of the memory without it.
+pub fn weaves_are_levels()
+    ensures begins { WeavingBegins }
+    ensures goes_on { WeavingGoesOn }
+    ensures ends { WeavingEnds }
+    ensures may_stop { WeavingMayStop }
+    ensures adding { AddingGoesOn }
+{}
+
+/// What levels hold may be more than what lives.
+pub fn the_dead_may_stay()
+    ensures places { PlacesMayGo }
+    ensures rows { DeadMayGo }
+{}
+
+/// What is filed stays right as elements come and go.
+pub fn what_is_filed_stays_right()
+    ensures arrivals { LevelsMeetArrivals }
+    ensures removals { LevelsMeetRemovals }
+    ensures store_arrivals { StoresMeetArrivals }
+    ensures store_removals { StoresMeetRemovals }
+{}
