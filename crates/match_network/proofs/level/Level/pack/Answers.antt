@@ -1,5 +1,5 @@
 -- One row more, if it lives.
-use Rattle.std.proofs.Common.{◌≡◌, ℕ, ◌+◌, [], ◌∷◌, ◌++◌, List, ap, drop, filter, subst, sym, ◌∙◌}
+use Rattle.std.proofs.Common.{◌+◌, [], ◌∷◌, ap, drop, filter, subst, sym, ◌∙◌}
 use Rattle.std.specs.List.{AllByRecursion}
 use Rattle.rule_base.proofs.EachLemmas.{Each-slice_get}
 use Rattle.match_network.specs.Filed.{LevelRows}
