@@ -7,18 +7,19 @@ use Rattle.std.proofs.lemmas.List.{map-append}
 use Rattle.std.proofs.lemmas.List.Elements.{filter-append}
 use Rattle.rule_base.specs.declared.element.Element.{Element}
 use Rattle.rule_base.specs.Numbers.{has_number}
-use Rattle.rule_base.proofs.EachLemmas.{Each-always, Each-append, Each-weaker}
+use Rattle.rule_base.proofs.EachLemmas.{Each-always, Each-append, Each-filter, Each-weaker}
 use Rattle.working_memory.proofs.PlaceLemmas.{filter-agree, filter-both, has_number-filter}
 use Rattle.join_tests.specs.declared.joins.Join.{Join}
 use Rattle.join_tests.specs.Hashing.{hash_of}
 use Rattle.join_tests.specs.Joining.{key_of_element, key_of_row, passes}
-use Rattle.match_network.specs.Conditions.{level_at}
-use Rattle.match_network.specs.Filed.{IsFiled, LevelRows, filed, filed_rows, hash_at, living_entries, passes_at, row_at, row_hash, row_lives, store_entries}
-use Rattle.match_network.specs.FilingLaws.{LevelsMeetArrivals, LevelsMeetRemovals, StoresMeetArrivals, StoresMeetRemovals}
+use Rattle.match_network.specs.Conditions.{IsLevelOf, level_at}
+use Rattle.match_network.specs.Filed.{IsFiled, LevelRows, filed, filed_rows, hash_at, living_entries, packed, passes_at, row_at, row_hash, row_lives, store_entries}
+use Rattle.match_network.specs.FilingLaws.{LevelsMayBePacked, StoresMayBePacked, LevelsMeetArrivals, LevelsMeetRemovals, StoresMeetArrivals, StoresMeetRemovals}
 use Rattle.match_network.specs.Levels.{HaveCome}
 use Rattle.match_network.specs.Row.{is_living, some_passes}
 use Rattle.match_network.proofs.ComeLemmas.{HaveCome-more, elements_of-come, slice_get-more}
-use Rattle.match_network.proofs.GivenLemmas.{filed-numbered}
+use Rattle.match_network.proofs.GivenLemmas.{AreFiled-set, IsFiled-more, filed-numbered}
+use Rattle.match_network.proofs.FiledLemmas.{IsStore-cleaned}
 use Rattle.match_network.proofs.LevelLemmas.{lives_in_more}
 use Rattle.match_network.proofs.RowLemmas.{has_number-push}
 
@@ -215,3 +216,29 @@ stores_meet_removals join came places keep entries held =
     second : (a b : Bool) → (a && b) ≡ true → b ≡ true
     second true b is = is
     second false b is = absurd (let wrong : ⊥ = cc in wrong)
+
+-- packing
+nothing_filed : (next : List Join) (came : List Element) → filed next came 0 [] ≡ []
+nothing_filed [] came = refl
+nothing_filed (join ∷ rest) came = refl
+
+pub levels_may_be_packed : LevelsMayBePacked
+levels_may_be_packed all came places levels number lt held =
+    let level = level_at levels number in
+    let old = held.each number lt in
+    let next = drop (number + 1) all in
+    let rows = filter (is_living places) level.rows in
+    let empty : LevelRows = record { width = level.width; rows = []; entries = [] } in
+    let none : IsFiled next came places empty = record { living = sym (ap (living_entries (row_lives places [])) (nothing_filed next came)); numbered = tt } in
+    let is : IsLevelOf all came places number (packed next came places level) = record {
+      width = old.width;
+      widths = Each-filter (λ row. length row ≡ number + 1) (is_living places) level.rows old.widths;
+      have_come = Each-filter (HaveCome came) (is_living places) level.rows old.have_come;
+      filed = IsFiled-more next came places empty rows none;
+    } in
+    AreFiled-set all came places levels number (packed next came places level) held lt is
+
+pub stores_may_be_packed : StoresMayBePacked
+stores_may_be_packed join came places entries held =
+    IsStore-cleaned join came places entries (living_entries (has_number places) entries)
+    (record { keep = λ entry. has_number places entry.1; is = refl; living = λ entry alive. alive }) held

@@ -1,5 +1,5 @@
 -- What weaving leaves of levels.
-use Rattle.std.proofs.Common.{◌≡◌, ℕ, ◌+◌, ◌-◌, ◌<◌, ◌==◌, List, [], ◌∷◌, ◌++◌, Bool, true, false, not, cond, ◌&&◌, ◌||◌, length, zero, suc, refl, ap, sym, ◌∙◌, arith, inl, inr, subst, append_assoc, length-append, Option, Some, None, slice_get, nat_le}
+use Rattle.std.proofs.Common.{◌≡◌, ◌⊎◌, ℕ, ◌+◌, ◌-◌, ◌<◌, ◌==◌, List, [], ◌∷◌, ◌++◌, Bool, true, false, not, cond, ◌&&◌, ◌||◌, length, zero, suc, refl, ap, sym, ◌∙◌, arith, inl, inr, subst, append_assoc, length-append, Option, Some, None, slice_get, nat_le}
 use Rattle.std.specs.List.{AllByRecursion, filter, list_any}
 use Rattle.std.proofs.lemmas.Bool.{and_parts, cases_lt, eqb-true, le-leb, lt-leb, or_parts}
 use Rattle.std.proofs.lemmas.Bool.Decides.{nat_tests}
@@ -294,11 +294,19 @@ kept_step : (same keep : Bool) → (same ≡ true → keep ≡ true) → (same &
 kept_step true keep is = is refl
 kept_step false keep is = refl
 
+kept_once : (places row : List ℕ) (rows left : List (List ℕ)) → is_living places row ≡ true → (left ≡ rows) ⊎ (left ≡ filter (is_living places) rows) → times (same_numbers row) left ≡ times (same_numbers row) rows
+kept_once places row rows left living (inl same) = ap (times (same_numbers row)) same
+kept_once places row rows left living (inr fewer) =
+    ap (times (same_numbers row)) fewer
+    ∙ times-filter (same_numbers row) (is_living places) rows
+    ∙ times-agree (λ other. same_numbers row other && is_living places other) (same_numbers row) (λ other. kept_step (same_numbers row other) (is_living places other) (λ same. ap (is_living places) (sym (same_row row other same)) ∙ living)) rows
+
+kept_come : (came : List Element) (places : List ℕ) (rows left : List (List ℕ)) → AllByRecursion (HaveCome came) rows → (left ≡ rows) ⊎ (left ≡ filter (is_living places) rows) → AllByRecursion (HaveCome came) left
+kept_come came places rows left come (inl same) = subst (AllByRecursion (HaveCome came)) (sym same) come
+kept_come came places rows left come (inr fewer) = subst (AllByRecursion (HaveCome came)) (sym fewer) (Each-filter (HaveCome came) (is_living places) rows come)
+
 pub dead_may_go : DeadMayGo
-dead_may_go joins came places keep levels kept held = record {
-  once = λ row living.
-      times-filter (same_numbers row) keep (levels (length row))
-      ∙ times-agree (λ other. same_numbers row other && keep other) (same_numbers row) (λ other. kept_step (same_numbers row other) (keep other) (λ same. ap keep (sym (same_row row other same)) ∙ kept row living)) (levels (length row))
-      ∙ held.once row living;
-  have_come = λ width. Each-filter (HaveCome came) keep (levels width) (held.have_come width);
+dead_may_go joins came places levels new kept held = record {
+  once = λ row living. kept_once places row (levels (length row)) (new (length row)) living (kept (length row)) ∙ held.once row living;
+  have_come = λ width. kept_come came places (levels width) (new width) (held.have_come width) (kept width);
 }

@@ -111,3 +111,17 @@ grown-from joins came places rows number row at =
 
 pub grown-end : (joins : Joins) (came : List Element) (places : List ℕ) (rows : List (List ℕ)) (number : ℕ) → length rows ≤ number → grown joins came places (drop number rows) ≡ []
 grown-end joins came places rows number past = ap (grown joins came places) (drop_all number rows past)
+
+-- what a filter leaves from a number on
+filter_first : {X : Type 0} (test : X → Bool) (x : X) (xs : List X) → filter test (x ∷ xs) ≡ filter test (x ∷ []) ++ filter test xs
+filter_first test x xs = step (test x)
+  where
+    step : (b : Bool) → cond b (x ∷ filter test xs) (filter test xs) ≡ cond b (x ∷ []) [] ++ filter test xs
+    step true = refl
+    step false = refl
+
+pub filter-from : {X : Type 0} (test : X → Bool) (xs : List X) (i : ℕ) (x : X) → slice_get xs i ≡ Some x → filter test (drop i xs) ≡ filter test (x ∷ []) ++ filter test (drop (i + 1) xs)
+filter-from test xs i x at = ap (filter test) (drop_from xs i x at) ∙ filter_first test x (drop (i + 1) xs)
+
+pub filter-end : {X : Type 0} (test : X → Bool) (xs : List X) (i : ℕ) → length xs ≤ i → filter test (drop i xs) ≡ []
+filter-end test xs i past = ap (filter test) (drop_all i xs past)

@@ -42,6 +42,11 @@ abbrev pub with_rows : List Join → List Element → LevelRows → List (List �
 with_rows next came level rows =
     record level { rows = level.rows ++ rows; entries = level.entries ++ filed next came (length level.rows) rows }
 
+-- a level with those of its rows alone that are of elements in working memory, filed anew
+abbrev pub packed : List Join → List Element → List ℕ → LevelRows → LevelRows
+packed next came places level =
+    with_rows next came (record { width = level.width; rows = []; entries = [] }) (filter (is_living places) level.rows)
+
 -- the row with a number
 abbrev pub row_at : List (List ℕ) → ℕ → List ℕ
 row_at rows number = slice_index_or rows number []

@@ -1,10 +1,11 @@
 -- What is filed stays right as elements come and go.
-use Rattle.std.specs.Prelude.{◌≡◌, ℕ, ◌<◌, List, [], ◌∷◌, ◌++◌, Bool, filter, length}
+use Rattle.std.specs.Prelude.{◌≡◌, ℕ, ◌+◌, ◌<◌, List, [], ◌∷◌, ◌++◌, Bool, drop, filter, length, slice_set}
 use Rattle.std.specs.List.{AllByRecursion}
 use Rattle.rule_base.specs.declared.element.Element.{Element}
+use Rattle.rule_base.specs.Numbers.{has_number}
 use Rattle.join_tests.specs.declared.joins.Join.{Join}
-use Rattle.match_network.specs.Conditions.{AreFiled}
-use Rattle.match_network.specs.Filed.{IsStore, LevelRows, store_entries}
+use Rattle.match_network.specs.Conditions.{AreFiled, level_at}
+use Rattle.match_network.specs.Filed.{IsStore, LevelRows, living_entries, packed, store_entries}
 
 -- levels have nothing to do where an element comes
 abbrev pub LevelsMeetArrivals : Type 0
@@ -32,3 +33,17 @@ abbrev pub StoresMeetRemovals : Type 0
 StoresMeetRemovals =
     (join : Join) (came : List Element) (places : List ℕ) (keep : ℕ → Bool) (entries : List (ℕ × ℕ)) →
     IsStore join came places entries → IsStore join came (filter keep places) entries
+
+-- a level may be packed
+abbrev pub LevelsMayBePacked : Type 0
+LevelsMayBePacked =
+    (all : List Join) (came : List Element) (places : List ℕ) (levels : List LevelRows) (number : ℕ) →
+    number < length levels →
+    AreFiled all came places levels →
+    AreFiled all came places (slice_set levels number (packed (drop (number + 1) all) came places (level_at levels number)))
+
+-- and a store may
+abbrev pub StoresMayBePacked : Type 0
+StoresMayBePacked =
+    (join : Join) (came : List Element) (places : List ℕ) (entries : List (ℕ × ℕ)) →
+    IsStore join came places entries → IsStore join came places (living_entries (has_number places) entries)

@@ -1,5 +1,5 @@
 -- What weaving gives, as laws.
-use Rattle.std.specs.Prelude.{◌≡◌, ℕ, ◌<◌, ◌==◌, List, [], ◌∷◌, ◌++◌, Bool, true, false, Some, filter, length, slice_get}
+use Rattle.std.specs.Prelude.{◌≡◌, ◌⊎◌, ℕ, ◌<◌, ◌==◌, List, [], ◌∷◌, ◌++◌, Bool, true, false, Some, filter, length, slice_get}
 use Rattle.std.specs.List.{AllByRecursion, list_any}
 use Rattle.rule_base.specs.declared.element.Element.{Element}
 use Rattle.rule_base.specs.Memory.{Rises}
@@ -55,9 +55,9 @@ PlacesMayGo =
     (joins : Joins) (came : List Element) (places : List ℕ) (keep : ℕ → Bool) (levels : Levels) →
     AreLevels joins came places levels → AreLevels joins came (filter keep places) levels
 
--- dead rows may be dropped
+-- dead rows may be dropped, of some levels or of all
 abbrev pub DeadMayGo : Type 0
 DeadMayGo =
-    (joins : Joins) (came : List Element) (places : List ℕ) (keep : List ℕ → Bool) (levels : Levels) →
-    ((row : List ℕ) → is_living places row ≡ true → keep row ≡ true) →
-    AreLevels joins came places levels → AreLevels joins came places (λ width. filter keep (levels width))
+    (joins : Joins) (came : List Element) (places : List ℕ) (levels new : Levels) →
+    ((width : ℕ) → (new width ≡ levels width) ⊎ (new width ≡ filter (is_living places) (levels width))) →
+    AreLevels joins came places levels → AreLevels joins came places new

@@ -1,6 +1,6 @@
 //! Laws of what the levels hold. Each function here does nothing: its contract is the law.
 
-ghost use Rattle.match_network.specs.FilingLaws.{LevelsMeetArrivals, LevelsMeetRemovals, StoresMeetArrivals, StoresMeetRemovals};
+ghost use Rattle.match_network.specs.FilingLaws.{LevelsMayBePacked, LevelsMeetArrivals, LevelsMeetRemovals, StoresMayBePacked, StoresMeetArrivals, StoresMeetRemovals};
 ghost use Rattle.match_network.specs.Laws.{AddingGoesOn, DeadMayGo, PlacesMayGo, WeavingBegins, WeavingEnds, WeavingGoesOn, WeavingMayStop};
 
 /// Weaving a place in at each condition element where its element may join, in any order and once at
@@ -25,4 +25,6 @@ pub fn what_is_filed_stays_right()
     ensures removals { LevelsMeetRemovals }
     ensures store_arrivals { StoresMeetArrivals }
     ensures store_removals { StoresMeetRemovals }
+    ensures packing { LevelsMayBePacked }
+    ensures store_packing { StoresMayBePacked }
 {}

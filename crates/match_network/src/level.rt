@@ -3,8 +3,9 @@
 ghost use Rattle.std.specs.Prelude.{◌≡◌, ◌+◌, ◌<◌, [], ◌∷◌, ◌++◌, OnErr, OnOk, Some, filter, length, reverse, slice_get};
 ghost use Rattle.std.specs.List.{AllByRecursion};
 ghost use Rattle.hash_buckets.specs.Buckets.{numbers_of, stays};
-ghost use Rattle.match_network.specs.Filed.{filed, row_lives, with_rows};
+ghost use Rattle.match_network.specs.Filed.{filed, packed, row_lives, with_rows};
 ghost use Rattle.match_network.specs.Levels.{HaveCome};
+ghost use Rattle.match_network.specs.Row.{is_living};
 
 use crate::row_view::RowView;
 use crate::{Arrivals, Rows};
@@ -98,6 +99,48 @@ impl Level {
             return Err(want);
         }
         Ok(())
+    }
+
+    /// Keeps the rows of elements in working memory alone, numbers them anew, and files them for the first
+    /// of the condition elements that follow. It looks at each row once, and frees the memory of the
+    /// others. After want of memory all is as before.
+    pub fn pack(
+        &mut self,
+        alloc: Global,
+        next: &[Join],
+        arrivals: &Arrivals,
+    ) -> Result<(), OutOfMemory>
+        requires width { 0 < self.old.width }
+        requires come { AllByRecursion (HaveCome arrivals.now.came) self.old.rows }
+        ensures ok { OnOk result (self.new ≡ packed next.now arrivals.now.came arrivals.now.places self.old) }
+        ensures err { OnErr result (self.new ≡ self.old) }
+    {
+        let mut packed = Level::new(alloc, self.rows.width());
+        for number in 0..self.rows.len() {
+            packed.take_living(self.rows.at(number), next, arrivals)?;
+        }
+        *self = packed;
+        Ok(())
+    }
+
+    /// Adds a row if it is of elements in working memory. After want of memory all is as before.
+    fn take_living(
+        &mut self,
+        row: &[u32],
+        next: &[Join],
+        arrivals: &Arrivals,
+    ) -> Result<(), OutOfMemory>
+        requires some { 0 < length row.now }
+        requires width { length row.now ≡ self.old.width }
+        requires come { HaveCome arrivals.now.came row.now }
+        ensures ok { OnOk result (self.new ≡ with_rows next.now arrivals.now.came self.old (filter (is_living arrivals.now.places) (row.now ∷ []))) }
+        ensures err { OnErr result (self.new ≡ self.old) }
+    {
+        if !arrivals.have(row) {
+            return Ok(());
+        }
+        let last = row.len() - 1;
+        self.push(&row[..last], row[last], next, arrivals)
     }
 
     /// Takes the rows that don't live out of the bucket of this hash. It looks at each of its rows once,

@@ -40,6 +40,13 @@ impl Rows {
         }
     }
 
+    /// How many places each row has.
+    pub fn width(&self) -> usize
+        ensures { result ≡ self.now.width }
+    {
+        self.width
+    }
+
     /// How many rows there are: fewer than there are numbers of 32 bits.
     pub fn len(&self) -> usize
         ensures value { result ≡ length self.now.rows }
