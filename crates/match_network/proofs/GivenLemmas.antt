@@ -14,16 +14,15 @@ use Rattle.rule_base.proofs.EachLemmas.{Each-always, Each-append, Each-filter, E
 use Rattle.working_memory.proofs.PlaceLemmas.{filter-agree}
 use Rattle.join_tests.specs.declared.joins.Join.{Join}
 use Rattle.join_tests.specs.Joining.{joins, passes, same_key, tests_hold}
-use Rattle.hash_buckets.specs.Buckets.{Buckets}
-use Rattle.match_network.specs.Conditions.{AreCleaned, AreFiled, IsBegun, IsGiven, IsGivenPart, IsLevelOf, entries_at, joins_of, level_at, rows_of}
+use Rattle.match_network.specs.Conditions.{AreFiled, IsBegun, IsGiven, IsGivenPart, IsLevelOf, joins_of, level_at, rows_of}
 use Rattle.match_network.specs.Filed.{IsFiled, LevelRows, filed, filed_rows, living_entries, only, passes_at, row_lives, with_rows}
-use Rattle.match_network.specs.Joining.{IsCleaned, agrees, extended}
+use Rattle.match_network.specs.Joining.{agrees, extended}
 use Rattle.match_network.specs.SoFar.{IsPart}
 use Rattle.match_network.specs.Levels.{HaveCome}
 use Rattle.match_network.specs.Row.{Joins, elements_of, extends, is_living, some_passes}
 use Rattle.match_network.specs.Woven.{Levels, grown, joined, made, offered, with_place}
 use Rattle.match_network.proofs.ComeLemmas.{Each-reverse, grown-come, joined-come}
-use Rattle.match_network.proofs.FiledLemmas.{IsCleaned-none, passed_came}
+use Rattle.match_network.proofs.FiledLemmas.{passed_came}
 use Rattle.match_network.proofs.SoFarLemmas.{drop_from, filed-append}
 
 -- rows that are filed have their numbers
@@ -323,18 +322,3 @@ pub within-is : {X : Type 0} (xs : List X) (i : ℕ) (x : X) → slice_get xs i 
 within-is [] i x at = absurd (let wrong : ⊥ = cc in wrong)
 within-is (y ∷ xs) zero x at = omega arith
 within-is (y ∷ xs) (suc i) x at = omega (arith, within-is xs i x at)
-
--- one store was cleaned
-abbrev no_store : Buckets
-no_store = record { entries = []; links = 0 }
-
-pub AreCleaned-set : (places : List ℕ) (stores : List Buckets) (number : ℕ) (store other : Buckets) → number < length stores → IsCleaned places (get_or stores number other).entries store.entries → AreCleaned places stores (set stores number store)
-AreCleaned-set places stores number store other lt cleaned at = elim (cases_eq at number) [
-  | inl same ↦
-      subst (λ n. IsCleaned places (entries_at stores n) (entries_at (set stores number store) n)) (sym same)
-      (subst (λ (s : Buckets). IsCleaned places (entries_at stores number) s.entries) (sym (get_or-set_same stores number store no_store lt))
-      (subst (λ (s : Buckets). IsCleaned places s.entries store.entries) (get_or_default stores number other no_store lt) cleaned))
-  | inr apart ↦
-      subst (λ (s : Buckets). IsCleaned places (entries_at stores at) s.entries) (sym (get_or-set_other stores number at store no_store apart))
-      (IsCleaned-none places (entries_at stores at))
-]

@@ -13,6 +13,8 @@ pub mod TagLemmas
 -- levels while rows are added, and what their buckets hold
 pub mod SoFarLemmas
 pub mod FiledLemmas
+-- stores that are cleaned
+pub mod StoreLemmas
 -- the levels of a rule, by their numbers
 pub mod ConditionLemmas
 pub mod GivenLemmas

@@ -8,15 +8,13 @@ use Rattle.std.proofs.lemmas.List.Concat.{flat_map-cons}
 use Rattle.rule_base.specs.declared.element.Element.{Element}
 use Rattle.rule_base.specs.Numbers.{has_number}
 use Rattle.rule_base.proofs.EachLemmas.{Each-always, Each-both, Each-flat_map, Each-map, Each-weaker}
-use Rattle.hash_buckets.specs.Buckets.{Buckets}
 use Rattle.join_tests.specs.declared.joins.Join.{Join}
 use Rattle.join_tests.specs.Joining.{joins}
-use Rattle.match_network.specs.Conditions.{AreCleaned, AreStores, IsGiven, IsGivenPart, entries_at, joins_of}
+use Rattle.match_network.specs.Conditions.{IsGiven, IsGivenPart, joins_of}
 use Rattle.match_network.specs.Levels.{HaveCome, OnlyAdds}
 use Rattle.match_network.specs.Row.{Joins, elements_of, extends, some_passes}
 use Rattle.match_network.specs.Woven.{Levels, grown, joined, made, offered, with_place, woven}
 use Rattle.match_network.proofs.ComeLemmas.{grown-come, made-come, slice_get-past}
-use Rattle.match_network.proofs.FiledLemmas.{IsCleaned-more, IsStore-cleaned}
 use Rattle.match_network.proofs.GivenLemmas.{Each-first, grown-widths, joined-widths}
 use Rattle.match_network.proofs.RowLemmas.{has_number-push}
 
@@ -213,12 +211,3 @@ way_adds all came places place at old now number first lt below come way width =
       | inr within ↦ so_far_more (joins_of all) came places place at old now number first lt below come way width within
     ] in
     (found.more, found.is, found.each)
-
--- stores that were cleaned serve as before
-pub AreStores-cleaned : (all : List Join) (came : List Element) (places numbers : List ℕ) (old new : List Buckets) → AreStores all came places numbers old → AreCleaned places old new → length new ≡ length old → AreStores all came places numbers new
-AreStores-cleaned all came places numbers old new held cleaned long at join there =
-    let found = held at join there in
-    (found.0, found.1, (let lt : found.0 < length new = omega (arith, found.2, long) in lt), IsStore-cleaned join came places (entries_at old found.0) (entries_at new found.0) (cleaned found.0) found.3)
-
-pub AreCleaned-more : (places : List ℕ) (old now new : List Buckets) → AreCleaned places old now → AreCleaned places now new → AreCleaned places old new
-AreCleaned-more places old now new first second number = IsCleaned-more places (entries_at old number) (entries_at now number) (entries_at new number) (first number) (second number)

@@ -1,11 +1,11 @@
 -- The levels of a rule, one for each of its positive condition elements.
-use Rattle.std.specs.Prelude.{◌≡◌, ℕ, ◌+◌, ◌-◌, ◌<◌, ◌==◌, ◌++◌, List, [], ◌∷◌, false, drop, length, slice_get, slice_index_or, slice_set, suc, zero, Some}
+use Rattle.std.specs.Prelude.{◌≡◌, ℕ, ◌+◌, ◌-◌, ◌<◌, ◌==◌, ◌++◌, List, [], ◌∷◌, Bool, true, false, drop, length, nat_lt, option_map, slice_get, slice_index_or, slice_set, suc, zero, Some}
 use Rattle.std.specs.List.{AllByRecursion}
 use Rattle.std.specs.Option.{option_map_or}
 use Rattle.rule_base.specs.declared.element.Element.{Element}
 use Rattle.join_tests.specs.declared.joins.Join.{Join}
 use Rattle.join_tests.specs.Joining.{joins}
-use Rattle.hash_buckets.specs.Buckets.{Buckets}
+use Rattle.alpha_memory.specs.Stores.{Serves, Store, emptied, without_entries}
 use Rattle.match_network.specs.Filed.{IsFiled, IsStore, LevelRows}
 use Rattle.match_network.specs.Joining.{IsCleaned}
 use Rattle.match_network.specs.Levels.{HaveCome}
@@ -39,17 +39,23 @@ pub record AreFiled (all : List Join) (came : List Element) (places : List ℕ) 
   pub each : (number : ℕ) → number < length levels → IsLevelOf all came places number (level_at levels number)
 
 -- what is filed in the store with a number
-abbrev pub entries_at : List Buckets → ℕ → List (ℕ × ℕ)
-entries_at stores number = (slice_index_or stores number (record { entries = []; links = 0 })).entries
+abbrev pub entries_at : List Store → ℕ → List (ℕ × ℕ)
+entries_at stores number = option_map_or (λ (store : Store). store.entries) (slice_get stores number) []
 
--- for each condition element the elements that pass it are in the store with its number
-abbrev pub AreStores : List Join → List Element → List ℕ → List ℕ → List Buckets → Type 0
+-- the store with a number asks for what a join asks of an element alone, and has the elements that pass, if it keeps any
+pub record IsServed (join : Join) (kept : Bool) (came : List Element) (places : List ℕ) (stores : List Store) (number : ℕ) : Type 0 where
+  pub serves : Serves (without_entries join.pattern join.key kept) stores number
+  pub has : kept ≡ true → IsStore join came places (entries_at stores number)
+
+-- each condition element is served by the store with its number; no row looks for the elements of the first one
+abbrev pub AreStores : List Join → List Element → List ℕ → List ℕ → List Store → Type 0
 AreStores all came places numbers stores =
-    (at : ℕ) (join : Join) → slice_get all at ≡ Some join → (number : ℕ) × (slice_get numbers at ≡ Some number) × (number < length stores) × IsStore join came places (entries_at stores number)
+    (at : ℕ) (join : Join) → slice_get all at ≡ Some join → (number : ℕ) × (slice_get numbers at ≡ Some number) × IsServed join (nat_lt 0 at) came places stores number
 
--- of each store some that doesn't live has gone
-abbrev pub AreCleaned : List ℕ → List Buckets → List Buckets → Type 0
-AreCleaned places old new = (number : ℕ) → IsCleaned places (entries_at old number) (entries_at new number)
+-- stores ask for what they did, and of each some that doesn't live has gone
+pub record AreCleaned (places : List ℕ) (old : List Store) (new : List Store) : Type 0 where
+  pub asks : (number : ℕ) → option_map emptied (slice_get new number) ≡ option_map emptied (slice_get old number)
+  pub each : (number : ℕ) → IsCleaned places (entries_at old number) (entries_at new number)
 
 -- a level has become another, and in the one before it what is filed was cleaned
 pub record IsBegun (all : List Join) (came : List Element) (places : List ℕ) (number : ℕ) (old : List LevelRows) (new : List LevelRows) (after : LevelRows) : Type 0 where

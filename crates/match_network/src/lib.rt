@@ -3,7 +3,6 @@
 #![tactic(auto)]
 
 mod arrivals;
-mod filing;
 pub mod laws;
 mod level;
 mod row_view;
@@ -12,7 +11,6 @@ mod stage;
 mod weaving;
 
 pub use arrivals::Arrivals;
-pub use filing::file_element;
 pub use level::Level;
 pub use rows::Rows;
 pub use weaving::{Conditions, new_levels, weave};

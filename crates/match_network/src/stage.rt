@@ -6,8 +6,9 @@ ghost use Rattle.rule_base.specs.Numbers.{has_number};
 ghost use Rattle.rule_base.specs.Views.{element_in};
 ghost use Rattle.join_tests.specs.Joining.{same_key};
 ghost use Rattle.hash_buckets.specs.Buckets.{numbers_of};
-ghost use Rattle.match_network.specs.Filed.{IsFiled, IsStore, only, passes_at, row_at, with_rows};
-ghost use Rattle.match_network.specs.Joining.{IsCleaned, agrees, agrees_at, extended, taken, takes};
+ghost use Rattle.match_network.specs.Conditions.{AreCleaned, IsServed};
+ghost use Rattle.match_network.specs.Filed.{IsFiled, only, passes_at, row_at, with_rows};
+ghost use Rattle.match_network.specs.Joining.{agrees, agrees_at, extended, taken, takes};
 ghost use Rattle.match_network.specs.Levels.{HaveCome};
 ghost use Rattle.match_network.specs.SoFar.{IsPart};
 ghost use Rattle.match_network.specs.Tried.{has_key, pairs_tried, places_tried, rows_tried, tries};
@@ -16,7 +17,7 @@ ghost use Rattle.match_network.specs.Woven.{grown, joined, offered, with_place};
 
 use crate::row_view::RowView;
 use crate::{Arrivals, Level, Rows};
-use hash_buckets::Buckets;
+use alpha_memory::{AlphaMemory, AlphaStore};
 use join_tests::{Join, element_hash, row_hash, same_key, tests_hold};
 use ops_text::OutOfMemory;
 use rule_base::{ElementView, Steps};
@@ -158,7 +159,7 @@ fn extend_by<L: Ledger>(
     stage: &Stage<'_>,
     row: &[u32],
     hash: u64,
-    store: &Buckets,
+    store: &AlphaStore,
     after: &mut Level,
     steps: &mut Steps<L>,
 ) -> Result<(), OutOfMemory>
@@ -209,26 +210,28 @@ pub(crate) fn join_place<L: Ledger>(
 fn extend_row<L: Ledger>(
     stage: &Stage<'_>,
     row: &[u32],
-    store: &mut Buckets,
+    store: u32,
+    alpha: &mut AlphaMemory,
     after: &mut Level,
     steps: &mut Steps<L>,
 ) -> Result<(), OutOfMemory>
-    requires store { IsStore stage.now.join.now stage.now.arrivals.now.came stage.now.arrivals.now.places store.old.entries }
+    requires served { IsServed stage.now.join.now true stage.now.arrivals.now.came stage.now.arrivals.now.places alpha.old store }
     requires come { HaveCome stage.now.arrivals.now.came row.now }
     requires width { length row.now + 1 ≡ after.old.width }
     ensures ok { OnOk result (after.new ≡ with_rows stage.now.next.now stage.now.arrivals.now.came after.old
         (map (λ p. with_place p row.now) (offered (only stage.now.join.now) stage.now.arrivals.now.came stage.now.arrivals.now.places row.now))) }
     ensures err { OnErr result (IsPart stage.now.next.now stage.now.arrivals.now.came after.old after.new
         (map (λ p. with_place p row.now) (offered (only stage.now.join.now) stage.now.arrivals.now.came stage.now.arrivals.now.places row.now))) }
-    ensures store { IsCleaned stage.now.arrivals.now.places store.old.entries store.new.entries }
+    ensures stores { AreCleaned stage.now.arrivals.now.places alpha.old alpha.new }
     ensures steps { steps.new ≤ steps.old + places_tried stage.now.join.now stage.now.arrivals.now.came stage.now.arrivals.now.places row.now }
 {
     let hash = row_hash(
         stage.join.key.as_slice(),
         &RowView::new(row, stage.arrivals),
     );
-    store.clean(hash, stage.arrivals);
-    extend_by(stage, row, hash, store, after, steps)
+    alpha.clean(store, hash, stage.arrivals);
+    let kept = alpha.store(store);
+    extend_by(stage, row, hash, kept, after, steps)
 }
 
 /// Adds the rows of a level from this number on, each with each place of a store whose element joins
@@ -237,11 +240,12 @@ pub(crate) fn grow<L: Ledger>(
     stage: &Stage<'_>,
     from: &Rows,
     first: usize,
-    store: &mut Buckets,
+    store: u32,
+    alpha: &mut AlphaMemory,
     after: &mut Level,
     steps: &mut Steps<L>,
 ) -> Result<(), OutOfMemory>
-    requires store { IsStore stage.now.join.now stage.now.arrivals.now.came stage.now.arrivals.now.places store.old.entries }
+    requires served { IsServed stage.now.join.now true stage.now.arrivals.now.came stage.now.arrivals.now.places alpha.old store }
     requires come { AllByRecursion (HaveCome stage.now.arrivals.now.came) from.now.rows }
     requires width { from.now.width + 1 ≡ after.old.width }
     requires first { first ≤ length from.now.rows }
@@ -249,11 +253,11 @@ pub(crate) fn grow<L: Ledger>(
         (grown (only stage.now.join.now) stage.now.arrivals.now.came stage.now.arrivals.now.places (drop first from.now.rows))) }
     ensures err { OnErr result (IsPart stage.now.next.now stage.now.arrivals.now.came after.old after.new
         (grown (only stage.now.join.now) stage.now.arrivals.now.came stage.now.arrivals.now.places (drop first from.now.rows))) }
-    ensures store { IsCleaned stage.now.arrivals.now.places store.old.entries store.new.entries }
+    ensures stores { AreCleaned stage.now.arrivals.now.places alpha.old alpha.new }
     ensures steps { steps.new ≤ steps.old + pairs_tried stage.now.join.now stage.now.arrivals.now.came stage.now.arrivals.now.places (drop first from.now.rows) }
 {
     for number in first..from.len() {
-        extend_row(stage, from.at(number), store, after, steps)?;
+        extend_row(stage, from.at(number), store, alpha, after, steps)?;
     }
     Ok(())
 }

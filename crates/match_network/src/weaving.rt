@@ -3,9 +3,9 @@
 ghost use Rattle.std.specs.Prelude.{◌≡◌, ℕ, ◌+◌, ◌-◌, ◌<◌, ◌≤◌, [], ◌∷◌, drop, IfOk, OnErr, OnOk, Some, length, map, slice_get, slice_set, true};
 ghost use Rattle.std.specs.List.{AllByRecursion};
 ghost use Rattle.join_tests.specs.declared.joins.Join.{Join};
-ghost use Rattle.match_network.specs.Conditions.{AreCleaned, AreFiled, AreStores, IsBegun, IsGiven, IsGivenPart, joins_of, level_at, rows_of};
-ghost use Rattle.match_network.specs.Filed.{IsFiled, IsStore, passes_at, LevelRows, only, with_rows};
-ghost use Rattle.match_network.specs.Joining.{IsCleaned, extended};
+ghost use Rattle.match_network.specs.Conditions.{AreCleaned, AreFiled, AreStores, IsBegun, IsGiven, IsGivenPart, IsServed, joins_of, level_at, rows_of};
+ghost use Rattle.match_network.specs.Filed.{IsFiled, passes_at, LevelRows, only, with_rows};
+ghost use Rattle.match_network.specs.Joining.{extended};
 ghost use Rattle.match_network.specs.Levels.{AreLevels, HaveCome, OnlyAdds};
 ghost use Rattle.match_network.specs.SoFar.{IsPart};
 ghost use Rattle.match_network.specs.Times.{times};
@@ -14,7 +14,7 @@ ghost use Rattle.match_network.specs.Woven.{grown, joined, made, with_place, wov
 
 use crate::stage::{Stage, extend, grow, join_place};
 use crate::{Arrivals, Level};
-use hash_buckets::Buckets;
+use alpha_memory::AlphaMemory;
 use join_tests::Join;
 use ops_text::OutOfMemory;
 use rule_base::Steps;
@@ -26,7 +26,7 @@ use std::sync::ledger::Ledger;
 #[derive(Drop)]
 pub struct Conditions<'a> {
     pub joins: &'a [Join],
-    pub stores: &'a [usize],
+    pub stores: &'a [u32],
     pub arrivals: &'a Arrivals,
 }
 
@@ -107,13 +107,14 @@ fn go_on<L: Ledger>(
     stage: &Stage<'_>,
     number: usize,
     first: usize,
-    store: &mut Buckets,
+    store: u32,
+    alpha: &mut AlphaMemory,
     levels: &mut [Level],
     steps: &mut Steps<L>,
 ) -> Result<usize, OutOfMemory>
     requires some { 0 < number }
     requires number { number < length levels.old }
-    requires store { IsStore stage.now.join.now stage.now.arrivals.now.came stage.now.arrivals.now.places store.old.entries }
+    requires served { IsServed stage.now.join.now true stage.now.arrivals.now.came stage.now.arrivals.now.places alpha.old store }
     requires come { AllByRecursion (HaveCome stage.now.arrivals.now.came) (level_at levels.old (number - 1)).rows }
     requires width { (level_at levels.old (number - 1)).width + 1 ≡ (level_at levels.old number).width }
     requires first { first ≤ length (level_at levels.old (number - 1)).rows }
@@ -122,14 +123,14 @@ fn go_on<L: Ledger>(
         (grown (only stage.now.join.now) stage.now.arrivals.now.came stage.now.arrivals.now.places (drop first (level_at levels.old (number - 1)).rows)))) }
     ensures err { OnErr result ((level : LevelRows) × (levels.new ≡ slice_set levels.old number level) × IsPart stage.now.next.now stage.now.arrivals.now.came (level_at levels.old number) level
         (grown (only stage.now.join.now) stage.now.arrivals.now.came stage.now.arrivals.now.places (drop first (level_at levels.old (number - 1)).rows))) }
-    ensures store { IsCleaned stage.now.arrivals.now.places store.old.entries store.new.entries }
+    ensures stores { AreCleaned stage.now.arrivals.now.places alpha.old alpha.new }
     ensures steps { steps.new ≤ steps.old + pairs_tried stage.now.join.now stage.now.arrivals.now.came stage.now.arrivals.now.places (drop first (level_at levels.old (number - 1)).rows) }
 {
     let (front, back) = levels.split_at_mut(number);
     let from = &front[number - 1];
     let after = &mut back[0];
     let count = after.rows().len();
-    grow(stage, from.rows(), first, store, after, steps)?;
+    grow(stage, from.rows(), first, store, alpha, after, steps)?;
     Ok(count)
 }
 
@@ -167,7 +168,7 @@ fn continue_at<L: Ledger>(
     conditions: &Conditions<'_>,
     number: usize,
     first: usize,
-    stores: &mut [Buckets],
+    alpha: &mut AlphaMemory,
     levels: &mut [Level],
     steps: &mut Steps<L>,
 ) -> Result<usize, OutOfMemory>
@@ -175,7 +176,7 @@ fn continue_at<L: Ledger>(
     requires number { number < length conditions.now.joins.now }
     requires first { first ≤ length (rows_of levels.old number) }
     requires filed { AreFiled conditions.now.joins.now conditions.now.arrivals.now.came conditions.now.arrivals.now.places levels.old }
-    requires stores { AreStores conditions.now.joins.now conditions.now.arrivals.now.came conditions.now.arrivals.now.places conditions.now.stores.now stores.old }
+    requires stores { AreStores conditions.now.joins.now conditions.now.arrivals.now.came conditions.now.arrivals.now.places conditions.now.stores.now alpha.old }
     requires below { AllByRecursion (λ p. p < length conditions.now.arrivals.now.came) conditions.now.arrivals.now.places }
     ensures count { IfOk result (λ count. count ≡ length (rows_of levels.old (number + 1))) }
     ensures ok { OnOk result (IsGiven (number + 1) (rows_of levels.old) (rows_of levels.new)
@@ -183,12 +184,12 @@ fn continue_at<L: Ledger>(
     ensures err { OnErr result (IsGivenPart (number + 1) (rows_of levels.old) (rows_of levels.new)
         (grown (joins_of conditions.now.joins.now) conditions.now.arrivals.now.came conditions.now.arrivals.now.places (drop first (rows_of levels.old number)))) }
     ensures filed { AreFiled conditions.now.joins.now conditions.now.arrivals.now.came conditions.now.arrivals.now.places levels.new }
-    ensures stores { AreCleaned conditions.now.arrivals.now.places stores.old stores.new }
+    ensures stores { AreCleaned conditions.now.arrivals.now.places alpha.old alpha.new }
     ensures steps { steps.new ≤ steps.old + at_number conditions.now.joins.now number (λ join. pairs_tried join conditions.now.arrivals.now.came conditions.now.arrivals.now.places (drop first (rows_of levels.old number))) }
 {
     let stage = conditions.stage(number);
-    let store = &mut stores[conditions.stores[number]];
-    go_on(&stage, number, first, store, levels, steps)
+    let store = conditions.stores[number];
+    go_on(&stage, number, first, store, alpha, levels, steps)
 }
 
 /// Weaves a place in at the condition element with this number, from 0: each level past it gets the rows
@@ -198,14 +199,14 @@ pub fn weave<L: Ledger>(
     conditions: &Conditions<'_>,
     at: usize,
     place: u32,
-    stores: &mut [Buckets],
+    alpha: &mut AlphaMemory,
     levels: &mut [Level],
     steps: &mut Steps<L>,
 ) -> Result<(), OutOfMemory>
     requires at { at < length conditions.now.joins.now }
     requires passes { (join : Join) → slice_get conditions.now.joins.now at ≡ Some join → passes_at join conditions.now.arrivals.now.came place ≡ true }
     requires below { AllByRecursion (λ p. p < length conditions.now.arrivals.now.came) conditions.now.arrivals.now.places }
-    requires stores { AreStores conditions.now.joins.now conditions.now.arrivals.now.came conditions.now.arrivals.now.places conditions.now.stores.now stores.old }
+    requires stores { AreStores conditions.now.joins.now conditions.now.arrivals.now.came conditions.now.arrivals.now.places conditions.now.stores.now alpha.old }
     requires filed { AreFiled conditions.now.joins.now conditions.now.arrivals.now.came conditions.now.arrivals.now.places levels.old }
     ensures ok { OnOk result ((width : ℕ) → rows_of levels.new width
         ≡ woven (joins_of conditions.now.joins.now) conditions.now.arrivals.now.came conditions.now.arrivals.now.places place at (rows_of levels.old) width) }
@@ -214,7 +215,7 @@ pub fn weave<L: Ledger>(
     // the stores only what is dead has gone.
     ensures adds { OnlyAdds conditions.now.arrivals.now.came place (rows_of levels.old) (rows_of levels.new) }
     ensures filed { AreFiled conditions.now.joins.now conditions.now.arrivals.now.came conditions.now.arrivals.now.places levels.new }
-    ensures stores { AreCleaned conditions.now.arrivals.now.places stores.old stores.new }
+    ensures stores { AreCleaned conditions.now.arrivals.now.places alpha.old alpha.new }
 
     // It counts a step for each pair of a row and an element that agree in the key.
     ensures steps { steps.new ≤ steps.old + woven_tried conditions.now.joins.now conditions.now.arrivals.now.came conditions.now.arrivals.now.places place at
@@ -222,7 +223,7 @@ pub fn weave<L: Ledger>(
 {
     let mut first = begin(conditions, at, place, levels, steps)?;
     for number in at + 1..conditions.joins.len() {
-        first = continue_at(conditions, number, first, stores, levels, steps)?;
+        first = continue_at(conditions, number, first, alpha, levels, steps)?;
     }
     Ok(())
 }

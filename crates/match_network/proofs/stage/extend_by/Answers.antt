@@ -16,7 +16,7 @@ loop-place-init g c =
     let stage = c.args.stage.now in
     let came = stage.arrivals.now.came in
     let all = reverse (numbers_of c.args.store.now.entries c.args.hash) in
-    let whole : c.into_iter-place-iterator.result ≡ all = c.into_iter-place-iterator.ensures.into_iter_gives ∙ c.bucket-place-items.ensures.numbers in
+    let whole : c.into_iter-place-iterator.result ≡ all = c.into_iter-place-iterator.ensures.into_iter_gives ∙ c.bucket-place-items.ensures.places in
     record {
       so_far = subst (λ (left : List ℕ). IsSoFar stage.next.now came c.args.after.now c.args.after.now (extended stage.join.now came c.args.row.now all) (extended stage.join.now came c.args.row.now left)) (sym whole) (so_far_none stage.next.now came c.args.after.now (extended stage.join.now came c.args.row.now all));
       within = subst (λ (left : List ℕ). AllByRecursion (λ n. n < length c.args.stage.now.arrivals.now.came) left) (sym whole) (Each-bucket (λ n. n < length c.args.stage.now.arrivals.now.came) c.args.store.now.entries c.args.hash c.requires.have_come);

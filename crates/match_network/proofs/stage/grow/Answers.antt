@@ -1,12 +1,12 @@
 -- One row more.
-use Rattle.std.proofs.Common.{ℕ, ◌+◌, ◌≤◌, ◌++◌, List, ap, arith, drop, length, map, subst, sym, ◌∙◌}
+use Rattle.std.proofs.Common.{ℕ, ◌+◌, ◌≤◌, ◌++◌, List, ap, arith, drop, length, map, subst, sym, true, ◌∙◌}
 use Rattle.std.proofs.lemmas.Result.{err_from_is_err_and}
 use Rattle.rule_base.proofs.EachLemmas.{Each-slice_get}
 use Rattle.match_network.specs.Filed.{LevelRows, only}
 use Rattle.match_network.specs.Levels.{HaveCome}
 use Rattle.match_network.specs.SoFar.{IsPart, IsSoFar}
 use Rattle.match_network.specs.Woven.{grown, offered, with_place}
-use Rattle.match_network.proofs.FiledLemmas.{IsCleaned-more, IsCleaned-none, IsStore-cleaned}
+use Rattle.match_network.proofs.StoreLemmas.{AreCleaned-more, AreCleaned-none, IsServed-cleaned}
 use Rattle.match_network.proofs.SoFarLemmas.{grown-end, grown-from, so_far_all, so_far_more, so_far_next, so_far_none}
 use Rattle.match_network.proofs.TriedLemmas.{pairs_tried-from}
 use Rattle.match_network.proofs.stage.grow.Goals as goal
@@ -16,15 +16,15 @@ loop-number-init g c =
     let stage = c.args.stage.now in
     record {
       so_far = so_far_none stage.next.now stage.arrivals.now.came c.args.after.now (grown (only stage.join.now) stage.arrivals.now.came stage.arrivals.now.places (drop c.args.first c.args.from.now.rows));
-      store = IsCleaned-none stage.arrivals.now.places c.args.store.now.entries;
+      stores = AreCleaned-none stage.arrivals.now.places c.args.alpha.now;
       width = c.requires.width;
       steps = omega arith;
     }
 
-pub extend_row-requires-clause-store : goal.extend_row-requires-clause-store
-extend_row-requires-clause-store g c =
+pub extend_row-requires-clause-served : goal.extend_row-requires-clause-served
+extend_row-requires-clause-served g c =
     let stage = c.args.stage.now in
-    IsStore-cleaned stage.join.now stage.arrivals.now.came stage.arrivals.now.places c.args.store.now.entries c.loop-number.store.entries c.loop-number.invariant.store c.requires.store
+    IsServed-cleaned stage.join.now true stage.arrivals.now.came stage.arrivals.now.places c.args.alpha.now c.loop-number.alpha c.args.store c.loop-number.invariant.stores c.requires.served
 
 pub extend_row-requires-clause-come : goal.extend_row-requires-clause-come
 extend_row-requires-clause-come g c =
@@ -48,9 +48,9 @@ returns-in_err-extend_row-clause-err g c =
     let out = err_from_is_err_and c.from_residual.result c.from_residual.ensures.1 in
     rw out.1 part
 
-pub returns-in_err-extend_row-clause-store : goal.returns-in_err-extend_row-clause-store
-returns-in_err-extend_row-clause-store g c =
-    IsCleaned-more c.args.stage.now.arrivals.now.places c.args.store.now.entries c.loop-number.store.entries c.extend_row.new.store.entries c.loop-number.invariant.store c.in_err-extend_row.ensures.store
+pub returns-in_err-extend_row-clause-stores : goal.returns-in_err-extend_row-clause-stores
+returns-in_err-extend_row-clause-stores g c =
+    AreCleaned-more c.args.stage.now.arrivals.now.places c.args.alpha.now c.loop-number.alpha c.extend_row.new.alpha c.loop-number.invariant.stores c.in_err-extend_row.ensures.stores
 
 pub loop-number-preserved : goal.loop-number-preserved
 loop-number-preserved g c =
@@ -65,7 +65,7 @@ loop-number-preserved g c =
     let before = subst (λ (rs : List (List ℕ)). IsSoFar stage.next.now came c.args.after.now l.after all rs) (grown-from (only stage.join.now) came places rows l.number c.at.result.now c.at.ensures.row) l.invariant.so_far in
     record {
       so_far = so_far_next stage.next.now came c.args.after.now l.after c.extend_row.new.after all first left before c.in_ok-extend_row.ensures.ok;
-      store = IsCleaned-more places c.args.store.now.entries l.store.entries c.extend_row.new.store.entries l.invariant.store c.in_ok-extend_row.ensures.store;
+      stores = AreCleaned-more places c.args.alpha.now l.alpha c.extend_row.new.alpha l.invariant.stores c.in_ok-extend_row.ensures.stores;
       width = l.invariant.width ∙ sym (ap (λ (level : LevelRows). level.width) c.in_ok-extend_row.ensures.ok);
       steps = omega (arith, pairs_tried-from stage.join.now came places rows l.number c.at.result.now c.at.ensures.row, c.in_ok-extend_row.ensures.steps, l.invariant.steps);
     }

@@ -1,14 +1,13 @@
 -- The level at the number is given what comes of the last rows before it.
-use Rattle.std.proofs.Common.{◌≡◌, ◌+◌, ◌-◌, ◌<◌, [], arith, drop, get_or, length, rules, set, subst, sym}
+use Rattle.std.proofs.Common.{◌≡◌, ◌+◌, ◌-◌, ◌<◌, [], arith, drop, get_or, length, nat_lt, set, subst, sym, true}
 use Rattle.std.specs.List.{AllByRecursion}
 use Rattle.std.specs.Result.{OnErr, OnOk}
 use Rattle.match_network.specs.Arrivals.{Arrivals}
-use Rattle.match_network.specs.Conditions.{AreCleaned, AreFiled, IsGiven, IsGivenPart, entries_at, joins_of, level_at, rows_of}
-use Rattle.match_network.specs.Filed.{IsStore, only}
+use Rattle.match_network.specs.Conditions.{AreCleaned, AreFiled, IsGiven, IsGivenPart, IsServed, joins_of, level_at, rows_of}
+use Rattle.match_network.specs.Filed.{only}
 use Rattle.match_network.specs.Woven.{grown}
-use Rattle.hash_buckets.specs.Buckets.{Buckets}
-use Rattle.std.proofs.lemmas.List.{get_or_default}
-use Rattle.match_network.proofs.GivenLemmas.{AreCleaned-set, by_result, filed_set, get_or-is, given_set, grows, on_err, on_ok, set_part, within-is}
+use Rattle.match_network.proofs.GivenLemmas.{by_result, filed_set, get_or-is, given_set, grows, on_err, on_ok, set_part, within-is}
+use Rattle.match_network.proofs.StoreLemmas.{past_first}
 use Rattle.match_network.proofs.weaving.continue_at.Goals as goal
 
 pub bounds-conditions-number : goal.bounds-conditions-number
@@ -16,27 +15,14 @@ bounds-conditions-number g c =
     let found = c.requires.stores c.args.number c.stage-stage.result.join.now c.stage-stage.ensures.join in
     within-is c.args.conditions.now.stores.now c.args.number found.0 found.1
 
-pub offset_bounds-stores-conditions : goal.offset_bounds-stores-conditions
-offset_bounds-stores-conditions g c =
+pub go_on-requires-clause-served : goal.go_on-requires-clause-served
+go_on-requires-clause-served g c =
     let found = c.requires.stores c.args.number c.stage-stage.result.join.now c.stage-stage.ensures.join in
-    let is = get_or-is c.args.conditions.now.stores.now c.args.number found.0 0 found.1 in
-    let lt : get_or c.args.conditions.now.stores.now c.args.number 0 < length c.args.stores.now = omega (arith, is, found.2) in
-    search rules
-
-pub bounds-stores-conditions : goal.bounds-stores-conditions
-bounds-stores-conditions g c =
-    let found = c.requires.stores c.args.number c.stage-stage.result.join.now c.stage-stage.ensures.join in
-    omega (arith, get_or-is c.args.conditions.now.stores.now c.args.number found.0 0 found.1, found.2)
-
-pub go_on-requires-clause-store : goal.go_on-requires-clause-store
-go_on-requires-clause-store g c =
-    let found = c.requires.stores c.args.number c.stage-stage.result.join.now c.stage-stage.ensures.join in
-    let s = get_or c.args.conditions.now.stores.now c.args.number 0 in
-    let is : s ≡ found.0 = get_or-is c.args.conditions.now.stores.now c.args.number found.0 0 found.1 in
-    let lt : s < length c.args.stores.now = omega (arith, is, found.2) in
-    subst (λ (b : Arrivals). IsStore c.stage-stage.result.join.now b.came b.places (get_or c.args.stores.now s c.index-stores-conditions.result).entries) (sym c.stage-stage.ensures.arrivals)
-    (subst (λ (t : Buckets). IsStore c.stage-stage.result.join.now c.args.conditions.now.arrivals.now.came c.args.conditions.now.arrivals.now.places t.entries) (get_or_default c.args.stores.now s (record { entries = []; links = 0 }) c.index-stores-conditions.result lt)
-    (subst (λ n. IsStore c.stage-stage.result.join.now c.args.conditions.now.arrivals.now.came c.args.conditions.now.arrivals.now.places (entries_at c.args.stores.now n)) (sym is) found.3))
+    let store = get_or c.args.conditions.now.stores.now c.args.number 0 in
+    let is : store ≡ found.0 = get_or-is c.args.conditions.now.stores.now c.args.number found.0 0 found.1 in
+    subst (λ (b : Arrivals). IsServed c.stage-stage.result.join.now true b.came b.places c.args.alpha.now store) (sym c.stage-stage.ensures.arrivals)
+    (subst (λ kept. IsServed c.stage-stage.result.join.now kept c.args.conditions.now.arrivals.now.came c.args.conditions.now.arrivals.now.places c.args.alpha.now store) (past_first c.args.number c.requires.some)
+    (subst (λ n. IsServed c.stage-stage.result.join.now (nat_lt 0 c.args.number) c.args.conditions.now.arrivals.now.came c.args.conditions.now.arrivals.now.places c.args.alpha.now n) (sym is) found.2))
 
 pub returns-clause-ok : goal.returns-clause-ok
 returns-clause-ok g c =
@@ -97,10 +83,4 @@ returns-clause-filed g c =
     (λ is. (set_part joins next a.came a.places c.args.number levels new rows held lt c.stage-stage.ensures.next grows_so.widths grows_so.come is.0 is.1 is.2).1))
 
 pub returns-clause-stores : goal.returns-clause-stores
-returns-clause-stores g c =
-    let found = c.requires.stores c.args.number c.stage-stage.result.join.now c.stage-stage.ensures.join in
-    let s = get_or c.args.conditions.now.stores.now c.args.number 0 in
-    let is : s ≡ found.0 = get_or-is c.args.conditions.now.stores.now c.args.number found.0 0 found.1 in
-    let lt : s < length c.args.stores.now = omega (arith, is, found.2) in
-    subst (λ (b : Arrivals). AreCleaned b.places c.args.stores.now (set c.args.stores.now s c.go_on.new.store)) c.stage-stage.ensures.arrivals
-    (AreCleaned-set c.stage-stage.result.arrivals.now.places c.args.stores.now s c.go_on.new.store c.index-stores-conditions.result lt c.go_on.ensures.store)
+returns-clause-stores g c = subst (λ (b : Arrivals). AreCleaned b.places c.args.alpha.now c.go_on.new.alpha) c.stage-stage.ensures.arrivals c.go_on.ensures.stores

@@ -1,11 +1,12 @@
 -- From level to level.
 use Rattle.std.proofs.Common.{◌≡◌, ◌+◌, ◌-◌, ◌≤◌, ap, arith, drop, length}
-use Rattle.match_network.specs.Conditions.{entries_at, joins_of, rows_of}
+use Rattle.match_network.specs.Conditions.{joins_of, rows_of}
 use Rattle.match_network.proofs.ComeLemmas.{some_at}
-use Rattle.match_network.proofs.FiledLemmas.{IsCleaned-none, passed_came}
+use Rattle.match_network.proofs.FiledLemmas.{passed_came}
 use Rattle.match_network.proofs.GivenLemmas.{rows_come, rows_widths}
-use Rattle.match_network.proofs.WayLemmas.{AreCleaned-more, AreStores-cleaned, stopped_at_once, stopped_later, way_adds, way_begins, way_ends, way_goes_on}
+use Rattle.match_network.proofs.WayLemmas.{stopped_at_once, stopped_later, way_adds, way_begins, way_ends, way_goes_on}
 use Rattle.match_network.specs.Tried.{woven_tried}
+use Rattle.match_network.proofs.StoreLemmas.{AreCleaned-more, AreCleaned-none, AreStores-cleaned}
 use Rattle.match_network.proofs.TriedLemmas.{tried_more, tried_within}
 use Rattle.match_network.proofs.weaving.weave.Goals as goal
 
@@ -22,7 +23,7 @@ returns-in_err-first-clause-adds g c =
     stopped_at_once (joins_of all) came places c.args.place c.args.at (rows_of levels) (rows_of c.begin.new.levels) lt c.requires.below come c.in_err-first.ensures.err
 
 pub returns-in_err-first-clause-stores : goal.returns-in_err-first-clause-stores
-returns-in_err-first-clause-stores g c number = IsCleaned-none c.args.conditions.now.arrivals.now.places (entries_at c.args.stores.now number)
+returns-in_err-first-clause-stores g c = AreCleaned-none c.args.conditions.now.arrivals.now.places c.args.alpha.now
 
 pub loop-number-init : goal.loop-number-init
 loop-number-init g c =
@@ -37,14 +38,14 @@ loop-number-init g c =
     record {
       way = way_begins (joins_of all) came places c.args.place c.args.at (rows_of levels) (rows_of c.begin.new.levels) c.in_ok-first.first c.in_ok-first.ensures.ok c.in_ok-first.ensures.count;
       filed = c.in_ok-first.ensures.filed;
-      cleaned = λ number. IsCleaned-none places (entries_at c.args.stores.now number);
+      cleaned = AreCleaned-none places c.args.alpha.now;
       steps = omega (arith, c.in_ok-first.ensures.steps, ap (woven_tried all came places c.args.place c.args.at (rows_of levels c.args.at)) (let none : 0 ≡ c.args.at + 1 - (c.args.at + 1) = omega arith in none));
     }
 
 pub continue_at-requires-clause-stores : goal.continue_at-requires-clause-stores
 continue_at-requires-clause-stores g c =
     let conditions = c.args.conditions.now in
-    AreStores-cleaned conditions.joins.now conditions.arrivals.now.came conditions.arrivals.now.places conditions.stores.now c.args.stores.now c.loop-number.stores c.requires.stores c.loop-number.invariant.cleaned c.loop-number.auto.stores
+    AreStores-cleaned conditions.joins.now conditions.arrivals.now.came conditions.arrivals.now.places conditions.stores.now c.args.alpha.now c.loop-number.alpha c.loop-number.invariant.cleaned c.requires.stores
 
 pub returns-in_err-first-2-clause-adds : goal.returns-in_err-first-2-clause-adds
 returns-in_err-first-2-clause-adds g c =
@@ -61,7 +62,7 @@ returns-in_err-first-2-clause-adds g c =
 
 pub returns-in_err-first-2-clause-stores : goal.returns-in_err-first-2-clause-stores
 returns-in_err-first-2-clause-stores g c =
-    AreCleaned-more c.args.conditions.now.arrivals.now.places c.args.stores.now c.loop-number.stores c.continue_at.new.stores c.loop-number.invariant.cleaned c.in_err-first-2.ensures.stores
+    AreCleaned-more c.args.conditions.now.arrivals.now.places c.args.alpha.now c.loop-number.alpha c.continue_at.new.alpha c.loop-number.invariant.cleaned c.in_err-first-2.ensures.stores
 
 pub loop-number-preserved : goal.loop-number-preserved
 loop-number-preserved g c =
@@ -77,7 +78,7 @@ loop-number-preserved g c =
     record {
       way = way_goes_on (joins_of all) came places c.args.place c.args.at (rows_of levels) (rows_of l.levels) (rows_of c.continue_at.new.levels) l.number l.first c.in_ok-first-2.first l.invariant.way c.in_ok-first-2.ensures.ok c.in_ok-first-2.ensures.count;
       filed = c.in_ok-first-2.ensures.filed;
-      cleaned = AreCleaned-more places c.args.stores.now l.stores c.continue_at.new.stores l.invariant.cleaned c.in_ok-first-2.ensures.stores;
+      cleaned = AreCleaned-more places c.args.alpha.now l.alpha c.continue_at.new.alpha l.invariant.cleaned c.in_ok-first-2.ensures.stores;
       steps = omega (arith, l.invariant.steps, c.in_ok-first-2.ensures.steps, tried_more all came places c.args.place c.args.at (rows_of levels c.args.at) (drop l.first (rows_of l.levels l.number)) l.number l.invariant.way.past l.invariant.way.last);
     }
 

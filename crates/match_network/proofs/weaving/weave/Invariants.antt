@@ -9,6 +9,6 @@ abbrev pub invariant-loop-number : goal.invariant-loop-number
 invariant-loop-number g l = record {
   way : IsOnWay (joins_of l.conditions.joins.now) l.conditions.arrivals.now.came l.conditions.arrivals.now.places l.place l.at (rows_of l.fn.levels) (rows_of l.levels) l.number l.first;
   filed : AreFiled l.conditions.joins.now l.conditions.arrivals.now.came l.conditions.arrivals.now.places l.levels;
-  cleaned : AreCleaned l.conditions.arrivals.now.places l.fn.stores l.stores;
+  cleaned : AreCleaned l.conditions.arrivals.now.places l.fn.alpha l.alpha;
   steps : l.steps ≤ l.fn.steps + woven_tried l.conditions.joins.now l.conditions.arrivals.now.came l.conditions.arrivals.now.places l.place l.at (rows_of l.fn.levels l.at) (l.number - (l.at + 1));
 }
