@@ -24,3 +24,7 @@ pub mod FilingLemmas
 -- levels with no rows
 pub mod StartLemmas
 pub mod TriedLemmas
+-- all rules
+pub mod AskerLemmas
+pub mod RuleLemmas
+pub mod SetLemmas

@@ -20,3 +20,6 @@ pub mod Conditions
 pub mod FilingLaws
 -- what is tried and counted
 pub mod Tried
+-- all rules
+pub mod Rules
+pub mod Network

@@ -3,14 +3,20 @@
 #![tactic(auto)]
 
 mod arrivals;
+mod askers;
 pub mod laws;
 mod level;
+mod network;
 mod row_view;
 mod rows;
+mod rule_levels;
+mod rule_set;
 mod stage;
 mod weaving;
 
 pub use arrivals::Arrivals;
 pub use level::Level;
+pub use network::Network;
 pub use rows::Rows;
+pub use rule_levels::RuleLevels;
 pub use weaving::{Conditions, new_levels, weave};

@@ -1,0 +1,57 @@
+//! The match network of a program's rules.
+
+ghost use Rattle.std.specs.Prelude.{◌≡◌, ◌+◌, ◌<◌, ◌≤◌, [], IfOk, OnErr, OnOk, length};
+ghost use Rattle.std.specs.List.{AllByRecursion};
+ghost use Rattle.match_network.specs.Arrivals.{without_tag};
+ghost use Rattle.match_network.specs.Rules.{AreCompiled};
+
+use crate::Arrivals;
+use crate::rule_set::RuleSet;
+use ops_text::OutOfMemory;
+use rule_base::{Rule, Steps};
+use std::alloc::Global;
+use std::marker::Model;
+use std::sync::ledger::Ledger;
+
+/// The elements that came, and for each rule the partial matches of those in working memory. It looks at
+/// no negated condition elements.
+#[derive(Drop)]
+pub struct Network {
+    arrivals: Arrivals,
+    set: RuleSet,
+}
+
+impl Model for Network {
+    ghost use Rattle.match_network.specs.Network.{IsNetwork, Network};
+
+    ghost Value = { Network };
+
+    ghost view = { λ n. record { arrivals = n.arrivals; rules = n.set.rules.items } };
+
+    ghost invariant = { λ n. IsNetwork n.arrivals.came n.arrivals.places n.set.alpha n.set.rules.items n.set.askers.items };
+}
+
+impl Network {
+    /// A network for these rules, by their numbers, without elements.
+    pub fn new(alloc: Global, rules: &[Rule]) -> Result<Network, OutOfMemory>
+        ensures came { IfOk result (λ network. network.arrivals.came ≡ []) }
+        ensures places { IfOk result (λ network. network.arrivals.places ≡ []) }
+        ensures compiled { IfOk result (λ network. AreCompiled rules.now network.rules) }
+    {
+        Ok(Network {
+            arrivals: Arrivals::new(alloc)?,
+            set: RuleSet::new(alloc, rules)?,
+        })
+    }
+
+    /// Takes the element with this tag out of working memory, if it is there. Its rows stay, as dead ones.
+    /// It takes no memory, and a time that grows with the logarithm of the tags that are missing between
+    /// the first one and this one.
+    pub fn remove<L: Ledger>(&mut self, tag: u64, steps: &mut Steps<L>)
+        ensures arrivals { self.new.arrivals ≡ without_tag self.old.arrivals tag }
+        ensures rules { self.new.rules ≡ self.old.rules }
+        ensures steps { steps.new ≤ steps.old + 2 }
+    {
+        self.arrivals.remove(tag, steps);
+    }
+}

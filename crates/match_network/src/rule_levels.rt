@@ -1,0 +1,131 @@
+//! What the network keeps of one rule.
+
+ghost use Rattle.std.specs.Prelude.{◌≡◌, ℕ, ◌<◌, [], IfOk, IfSome, OnErr, OnOk, Some, length, slice_get, true};
+ghost use Rattle.std.specs.List.{AllByRecursion, list_any};
+ghost use Rattle.join_tests.specs.declared.joins.Join.{Join};
+ghost use Rattle.join_tests.specs.Meaning.{IsCompiled};
+ghost use Rattle.match_network.specs.Conditions.{AreCleaned, AreFiled, AreStores, joins_of, level_at, rows_of};
+ghost use Rattle.match_network.specs.Filed.{passes_at};
+ghost use Rattle.match_network.specs.Levels.{OnlyAdds};
+ghost use Rattle.match_network.specs.Rules.{AreAsked, AreBare, GoesOn, IsRight, IsStopped, IsWoven};
+ghost use Rattle.match_network.specs.Woven.{woven};
+
+use crate::{Arrivals, Conditions, Level, Rows, new_levels, weave};
+use alpha_memory::AlphaMemory;
+use join_tests::{Join, Joins};
+use ops_text::{OutOfMemory, Sequence};
+use rule_base::{Rule, Steps};
+use std::alloc::Global;
+use std::marker::Model;
+use std::sync::ledger::Ledger;
+
+/// A rule's joins, the numbers of the stores that serve its positive condition elements, and a level for
+/// each of those.
+#[derive(Drop)]
+pub struct RuleLevels {
+    joins: Joins,
+    stores: Sequence<u32>,
+    levels: Vec<Level>,
+}
+
+impl Model for RuleLevels {
+    ghost use Rattle.match_network.specs.Rules.{RuleRows};
+
+    ghost Value = { RuleRows };
+
+    ghost view = { λ r. record { joins = r.joins; stores = r.stores; levels = r.levels.items } };
+}
+
+impl RuleLevels {
+    /// Compiles a rule, and asks for its stores. There are no rows.
+    pub(crate) fn new(
+        alloc: Global,
+        rule: &Rule,
+        alpha: &mut AlphaMemory,
+    ) -> Result<RuleLevels, OutOfMemory>
+        requires { AreBare alpha.old }
+        ensures compiled { IfOk result (λ rows. IsCompiled rule.now rows.joins) }
+        ensures right { IfOk result (IsRight [] [] alpha.new) }
+        ensures bare { AreBare alpha.new }
+        ensures serve { GoesOn alpha.old alpha.new }
+    {
+        let joins = Joins::compile(alloc, rule)?;
+        let stores = ask_all(alloc, joins.positives.as_slice(), alpha)?;
+        let levels = new_levels(alloc, joins.positives.as_slice())?;
+        Ok(RuleLevels {
+            joins,
+            stores,
+            levels,
+        })
+    }
+
+    /// The numbers of the stores that serve the positive condition elements, in order.
+    pub(crate) fn stores(&self) -> &[u32]
+        ensures { result.now ≡ self.now.stores }
+    {
+        self.stores.as_slice()
+    }
+
+    /// The rows for all positive condition elements, and among them some whose elements aren't in working
+    /// memory. There are none where the rule has no positive condition element.
+    pub fn rows(&self) -> Option<&Rows>
+        ensures some { IfSome result (λ rows. rows.now.rows ≡ rows_of self.now.levels (length self.now.levels)) }
+        ensures within { IfSome result (λ rows. 0 < length self.now.levels) }
+    {
+        match self.levels.last() {
+            Some(level) => Some(level.rows()),
+            None => None,
+        }
+    }
+
+    /// Weaves a place in at a positive condition element.
+    pub(crate) fn weave<L: Ledger>(
+        &mut self,
+        at: usize,
+        place: u32,
+        arrivals: &Arrivals,
+        alpha: &mut AlphaMemory,
+        steps: &mut Steps<L>,
+    ) -> Result<(), OutOfMemory>
+        requires at { at < length self.old.joins.positives }
+        requires passes { (join : Join) → slice_get self.old.joins.positives at ≡ Some join → passes_at join arrivals.now.came place ≡ true }
+        requires below { AllByRecursion (λ p. p < length arrivals.now.came) arrivals.now.places }
+        requires stores { AreStores self.old.joins.positives arrivals.now.came arrivals.now.places self.old.stores alpha.old }
+        requires filed { AreFiled self.old.joins.positives arrivals.now.came arrivals.now.places self.old.levels }
+        ensures ok { OnOk result ((width : ℕ) → rows_of self.new.levels width
+            ≡ woven (joins_of self.old.joins.positives) arrivals.now.came arrivals.now.places place at (rows_of self.old.levels) width) }
+        ensures joins { self.new.joins ≡ self.old.joins }
+        ensures same_stores { self.new.stores ≡ self.old.stores }
+        ensures adds { OnlyAdds arrivals.now.came place (rows_of self.old.levels) (rows_of self.new.levels) }
+        ensures filed { AreFiled self.old.joins.positives arrivals.now.came arrivals.now.places self.new.levels }
+        ensures cleaned { AreCleaned arrivals.now.places alpha.old alpha.new }
+    {
+        let conditions = Conditions {
+            joins: self.joins.positives.as_slice(),
+            stores: self.stores.as_slice(),
+            arrivals,
+        };
+        weave(&conditions, at, place, alpha, self.levels.as_mut_slice(), steps)
+    }
+}
+
+/// Asks a store for each positive condition element. No row looks for the elements of the first one, so
+/// its store keeps none.
+fn ask_all(
+    alloc: Global,
+    joins: &[Join],
+    alpha: &mut AlphaMemory,
+) -> Result<Sequence<u32>, OutOfMemory>
+    requires { AreBare alpha.old }
+    ensures asked { IfOk result (AreAsked joins.now alpha.new) }
+    ensures bare { AreBare alpha.new }
+    ensures serve { GoesOn alpha.old alpha.new }
+{
+    let mut stores = Sequence::new(alloc);
+    for number in 0..joins.len() {
+        let join = &joins[number];
+        let store = alpha.ask(alloc, &join.pattern, join.key.as_slice(), number > 0)?;
+        stores.push(store)?;
+    }
+    Ok(stores)
+}
