@@ -7,9 +7,9 @@ use Rattle.std.proofs.lemmas.Bool.Decides.{nat_tests}
 use Rattle.std.proofs.lemmas.List.{get_or-set_other, get_or-set_same, get_or_default, take_all, take_more}
 use Rattle.match_network.specs.declared.askers.Asker.{Asker}
 use Rattle.match_network.specs.Rules.{AreAskers, askers_at, asks, is_asker}
-use Rattle.match_network.specs.Times.{times}
+use Rattle.alpha_memory.specs.Times.{times}
 use Rattle.match_network.proofs.ComeLemmas.{slice_get-past}
-use Rattle.match_network.proofs.TimesLemmas.{times-append}
+use Rattle.alpha_memory.proofs.TimesLemmas.{times-append}
 
 zero_first : (n : ℕ) → (zero == suc n) ≡ false
 zero_first n = grind (arith, nat_tests)

@@ -11,11 +11,11 @@ use Rattle.working_memory.proofs.PlaceLemmas.{has_number-filter}
 use Rattle.match_network.specs.Laws.{AddingGoesOn, DeadMayGo, PlacesMayGo, WeavingBegins, WeavingEnds, WeavingGoesOn, WeavingMayStop}
 use Rattle.match_network.specs.Levels.{AreLevels, AreWoven, HaveCome, is_done}
 use Rattle.match_network.specs.Row.{Joins, elements_of, extends, is_first, is_living, is_match, joins_after, some_passes}
-use Rattle.match_network.specs.Times.{times}
+use Rattle.alpha_memory.specs.Times.{times}
 use Rattle.match_network.specs.Woven.{Levels, made, woven}
 use Rattle.match_network.proofs.ComeLemmas.{or_rest, Each-has, HaveCome-living, HaveCome-more, is_match-come, made-come}
 use Rattle.match_network.proofs.RowLemmas.{has_number-push, is_first-past, same_row}
-use Rattle.match_network.proofs.TimesLemmas.{times-agree, times-append, times-filter, times-none}
+use Rattle.alpha_memory.proofs.TimesLemmas.{times-agree, times-append, times-filter, times-none}
 use Rattle.match_network.proofs.WeaveLemmas.{IsOnce, made-times}
 
 -- 1 where it holds

@@ -1,5 +1,3 @@
--- how often something is in a list
-pub mod TimesLemmas
 -- rows of one place more, and rows of elements that came
 pub mod RowLemmas
 pub mod ComeLemmas
@@ -28,3 +26,5 @@ pub mod TriedLemmas
 pub mod AskerLemmas
 pub mod RuleLemmas
 pub mod SetLemmas
+pub mod DueLemmas
+pub mod TakeLemmas

@@ -9,7 +9,7 @@ use Rattle.match_network.specs.Conditions.{AreFiled, IsLevelOf, joins_of, level_
 use Rattle.match_network.specs.Filed.{LevelRows, filed, living_entries, row_lives}
 use Rattle.match_network.specs.Levels.{AreLevels, HaveCome}
 use Rattle.match_network.specs.Row.{is_living, is_match}
-use Rattle.match_network.specs.Times.{times}
+use Rattle.alpha_memory.specs.Times.{times}
 
 -- the level with this number, without rows
 abbrev pub empty_level : ℕ → LevelRows

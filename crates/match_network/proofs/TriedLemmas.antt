@@ -12,11 +12,11 @@ use Rattle.match_network.specs.Filed.{IsFiled, IsStore, LevelRows, hash_at, pass
 use Rattle.match_network.specs.Conditions.{joins_of}
 use Rattle.match_network.specs.Woven.{made}
 use Rattle.match_network.specs.Row.{elements_of, is_living, some_passes}
-use Rattle.match_network.specs.Times.{times}
+use Rattle.alpha_memory.specs.Times.{times}
 use Rattle.match_network.specs.Tried.{at_number, has_key, pairs_tried, places_tried, rows_tried, tries, woven_tried}
 use Rattle.match_network.proofs.FiledLemmas.{found_level, found_store, map-reverse, same_hash, turned}
 use Rattle.match_network.proofs.SoFarLemmas.{drop_from}
-use Rattle.match_network.proofs.TimesLemmas.{times-agree, times-filter, times-reverse}
+use Rattle.alpha_memory.proofs.TimesLemmas.{times-agree, times-filter, times-reverse}
 
 row_step : (without key living hit : Bool) → (key ≡ true → hit ≡ true) → ((without && key) && (living && hit)) ≡ (living && (without && key))
 row_step true true true hit is = is refl

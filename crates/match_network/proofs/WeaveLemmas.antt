@@ -6,10 +6,10 @@ use Rattle.rule_base.specs.declared.element.Element.{Element}
 use Rattle.rule_base.specs.Memory.{Rises}
 use Rattle.rule_base.specs.Numbers.{has_number, same_numbers}
 use Rattle.match_network.specs.Row.{Joins, extends, is_first, is_living, is_match}
-use Rattle.match_network.specs.Times.{times}
+use Rattle.alpha_memory.specs.Times.{times}
 use Rattle.match_network.specs.Woven.{grown, joined, made, offered, with_place}
 use Rattle.match_network.proofs.RowLemmas.{is_first-before, is_first-last, is_living-push, is_match-push, last_of, same_numbers-push, same_row}
-use Rattle.match_network.proofs.TimesLemmas.{Rises-times, times-agree, times-and, times-filter, times-flat_map, times-map, times-reverse}
+use Rattle.alpha_memory.proofs.TimesLemmas.{Rises-times, times-agree, times-and, times-filter, times-flat_map, times-map, times-reverse}
 
 -- 1 where it holds
 abbrev one : Bool → ℕ

@@ -1,5 +1,3 @@
--- how often something is in a list
-pub mod Times
 -- rows of places, and which of them are partial matches
 pub mod Row
 -- the rows that a place makes, and the levels that hold them

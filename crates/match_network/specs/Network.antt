@@ -10,7 +10,7 @@ use Rattle.match_network.specs.declared.askers.Asker.{Asker}
 use Rattle.match_network.specs.Arrivals.{Arrivals}
 use Rattle.match_network.specs.Row.{elements_of, is_living}
 use Rattle.match_network.specs.Rules.{AreAskers, IsRight, RuleRows}
-use Rattle.match_network.specs.Times.{times}
+use Rattle.alpha_memory.specs.Times.{times}
 
 -- the elements that came, those in working memory, and the rules
 pub record Network : Type 0 where

@@ -1,5 +1,5 @@
 -- The rules that a network keeps: what their condition elements ask, and the levels.
-use Rattle.std.specs.Prelude.{◌≡◌, ℕ, ◌<◌, Bool, List, [], ◌∷◌, ◌++◌, ◌==◌, ◌&&◌, true, false, if◌then◌else◌, length, nat_lt, option_and_then, slice_get, slice_index_or, Some}
+use Rattle.std.specs.Prelude.{◌≡◌, ℕ, ◌<◌, Bool, List, [], ◌∷◌, ◌++◌, ◌==◌, ◌&&◌, true, false, if◌then◌else◌, length, nat_lt, option_and_then, slice_get, slice_index_or, slice_set, Some}
 use Rattle.std.specs.List.{AllByRecursion, list_any}
 use Rattle.std.specs.Option.{option_map_or}
 use Rattle.rule_base.specs.declared.element.Element.{Element}
@@ -9,10 +9,10 @@ use Rattle.join_tests.specs.declared.joins.Joins.{Joins}
 use Rattle.join_tests.specs.Meaning.{IsCompiled}
 use Rattle.alpha_memory.specs.Stores.{Serves, Store, without_entries}
 use Rattle.match_network.specs.declared.askers.Asker.{Asker}
-use Rattle.match_network.specs.Conditions.{AreFiled, AreStores, joins_of, rows_of}
+use Rattle.match_network.specs.Conditions.{AreCleaned, AreFiled, AreStores, joins_of, rows_of}
 use Rattle.match_network.specs.Filed.{LevelRows, passes_at}
 use Rattle.match_network.specs.Levels.{AreLevels, AreWoven, OnlyAdds}
-use Rattle.match_network.specs.Times.{times}
+use Rattle.alpha_memory.specs.Times.{times}
 
 -- a rule: its joins, the numbers of the stores that serve its positive condition elements, and its levels
 pub record RuleRows : Type 0 where
@@ -101,3 +101,20 @@ pub record AreWovenIn (came : List Element) (places : List ℕ) (place : ℕ) (a
 pub record AreStopped (came : List Element) (places : List ℕ) (place : ℕ) (alpha : List Store) (old : List RuleRows) (now : List RuleRows) : Type 0 where
   pub count : length now ≡ length old
   pub each : (number : ℕ) (before after : RuleRows) → slice_get old number ≡ Some before → slice_get now number ≡ Some after → IsStopped came places place alpha before after
+
+-- what is filed of a rule is right
+pub record IsKept (came : List Element) (places : List ℕ) (alpha : List Store) (rule : RuleRows) : Type 0 where
+  pub filed : AreFiled rule.joins.positives came places rule.levels
+  pub served : AreStores rule.joins.positives came places rule.stores alpha
+
+-- one rule has got rows with a place, and of the stores some that doesn't live has gone
+pub record IsStep (came : List Element) (places : List ℕ) (place : ℕ) (number : ℕ) (alpha : List Store) (more : List Store) (old : List RuleRows) (new : List RuleRows) : Type 0 where
+  pub before : RuleRows
+  pub before_is : slice_get old number ≡ Some before
+  pub after : RuleRows
+  pub is : new ≡ slice_set old number after
+  pub joins : after.joins ≡ before.joins
+  pub stores : after.stores ≡ before.stores
+  pub adds : OnlyAdds came place (rows_of before.levels) (rows_of after.levels)
+  pub filed : AreFiled before.joins.positives came places after.levels
+  pub cleaned : AreCleaned places alpha more

@@ -8,7 +8,7 @@ use Rattle.join_tests.specs.Joining.{same_key}
 use Rattle.match_network.specs.Conditions.{joins_of}
 use Rattle.match_network.specs.Filed.{passes_at}
 use Rattle.match_network.specs.Row.{elements_of, is_living, some_passes}
-use Rattle.match_network.specs.Times.{times}
+use Rattle.alpha_memory.specs.Times.{times}
 use Rattle.match_network.specs.Woven.{made}
 
 -- whether the element at a place has the key that a row asks for

@@ -4,6 +4,7 @@
 
 mod arrivals;
 mod askers;
+mod due;
 pub mod laws;
 mod level;
 mod network;

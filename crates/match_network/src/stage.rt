@@ -12,7 +12,7 @@ ghost use Rattle.match_network.specs.Joining.{agrees, agrees_at, extended, taken
 ghost use Rattle.match_network.specs.Levels.{HaveCome};
 ghost use Rattle.match_network.specs.SoFar.{IsPart};
 ghost use Rattle.match_network.specs.Tried.{has_key, pairs_tried, places_tried, rows_tried, tries};
-ghost use Rattle.match_network.specs.Times.{times};
+ghost use Rattle.alpha_memory.specs.Times.{times};
 ghost use Rattle.match_network.specs.Woven.{grown, joined, offered, with_place};
 
 use crate::row_view::RowView;

@@ -8,7 +8,7 @@ ghost use Rattle.match_network.specs.Filed.{IsFiled, passes_at, LevelRows, only,
 ghost use Rattle.match_network.specs.Joining.{extended};
 ghost use Rattle.match_network.specs.Levels.{AreLevels, HaveCome, OnlyAdds};
 ghost use Rattle.match_network.specs.SoFar.{IsPart};
-ghost use Rattle.match_network.specs.Times.{times};
+ghost use Rattle.alpha_memory.specs.Times.{times};
 ghost use Rattle.match_network.specs.Tried.{at_number, has_key, pairs_tried, rows_tried, woven_tried};
 ghost use Rattle.match_network.specs.Woven.{grown, joined, made, with_place, woven};
 

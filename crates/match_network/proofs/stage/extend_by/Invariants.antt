@@ -3,7 +3,7 @@ use Rattle.std.proofs.Common.{◌≡◌, ◌+◌, ◌<◌, ◌≤◌, length, re
 use Rattle.std.specs.List.{AllByRecursion}
 use Rattle.hash_buckets.specs.Buckets.{numbers_of}
 use Rattle.match_network.specs.Joining.{extended}
-use Rattle.match_network.specs.Times.{times}
+use Rattle.alpha_memory.specs.Times.{times}
 use Rattle.match_network.specs.Tried.{has_key}
 use Rattle.match_network.specs.SoFar.{IsSoFar}
 use Rattle.match_network.proofs.stage.extend_by.Given as goal

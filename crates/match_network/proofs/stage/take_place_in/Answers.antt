@@ -6,7 +6,7 @@ use Rattle.hash_buckets.specs.Buckets.{numbers_of}
 use Rattle.match_network.specs.Filed.{LevelRows}
 use Rattle.match_network.specs.Joining.{taken}
 use Rattle.match_network.specs.Filed.{row_at}
-use Rattle.match_network.specs.Times.{times}
+use Rattle.alpha_memory.specs.Times.{times}
 use Rattle.match_network.specs.Tried.{tries}
 use Rattle.match_network.specs.SoFar.{IsPart, IsSoFar}
 use Rattle.match_network.proofs.SoFarLemmas.{Each-bucket, so_far_all, so_far_next, so_far_none, taken-cons}

@@ -4,7 +4,7 @@ use Rattle.std.specs.List.{AllByRecursion}
 use Rattle.hash_buckets.specs.Buckets.{numbers_of}
 use Rattle.match_network.specs.Joining.{taken}
 use Rattle.match_network.specs.Filed.{row_at}
-use Rattle.match_network.specs.Times.{times}
+use Rattle.alpha_memory.specs.Times.{times}
 use Rattle.match_network.specs.Tried.{tries}
 use Rattle.match_network.specs.SoFar.{IsSoFar}
 use Rattle.match_network.proofs.stage.take_place_in.Given as goal
