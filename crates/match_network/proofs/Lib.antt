@@ -28,3 +28,4 @@ pub mod RuleLemmas
 pub mod SetLemmas
 pub mod DueLemmas
 pub mod TakeLemmas
+pub mod PassedLemmas

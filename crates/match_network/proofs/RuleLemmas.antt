@@ -94,6 +94,7 @@ bare_serve all alpha numbers bare asked at join there =
 -- and go on so as other stores come
 pub bare_right : (old new : List Store) (rule : RuleRows) → GoesOn old new → AreBare new → IsRight [] [] old rule → IsRight [] [] new rule
 bare_right old new rule goes_on bare held = record {
+  count = held.count;
   filed = held.filed;
   served = bare_serve rule.joins.positives new rule.stores bare (λ at join there. let found = held.served at join there in (found.0, found.1, goes_on.serves (without_entries join.pattern join.key (nat_lt 0 at)) found.0 found.2.serves));
   right = held.right;

@@ -73,6 +73,7 @@ IsNetwork-none alpha = record { right = tt; askers_are = record { each = λ stor
 -- elements go
 pub IsRight-filter : (came : List Element) (places : List ℕ) (keep : ℕ → Bool) (alpha : List Store) (rule : RuleRows) → IsRight came places alpha rule → IsRight came (filter keep places) alpha rule
 IsRight-filter came places keep alpha rule held = record {
+  count = held.count;
   filed = levels_meet_removals rule.joins.positives came places keep rule.levels held.filed;
   served = λ at join there.
       let found = held.served at join there in

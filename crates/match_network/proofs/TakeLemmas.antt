@@ -100,8 +100,9 @@ rules_begin came places e old new rules below is held = record {
 }
 
 -- once a rule's condition elements that the element passes are done, it is right
-pub rule_ends : (came : List Element) (places : List ℕ) (place : ℕ) (e : Element) (alpha : List Store) (done : List ℕ) (old now : RuleRows) → slice_get came place ≡ Some e → ((at : ℕ) (join : Join) → slice_get old.joins.positives at ≡ Some join → passes join.pattern e ≡ true → list_any (λ other. other == at) done ≡ true) → IsWoven came places place alpha done old now → IsRight came places alpha now
-rule_ends came places place e alpha done old now there all held = record {
+pub rule_ends : (came : List Element) (places : List ℕ) (place : ℕ) (e : Element) (alpha : List Store) (done : List ℕ) (old now : RuleRows) → slice_get came place ≡ Some e → length old.stores ≡ length old.joins.positives → ((at : ℕ) (join : Join) → slice_get old.joins.positives at ≡ Some join → passes join.pattern e ≡ true → list_any (λ other. other == at) done ≡ true) → IsWoven came places place alpha done old now → IsRight came places alpha now
+rule_ends came places place e alpha done old now there count all held = record {
+  count = ap length held.stores ∙ count ∙ ap (λ (j : Joins). length j.positives) (sym held.joins);
   filed = held.filed;
   served = held.served;
   right = weaving_ends (joins_of now.joins.positives) came places place e done (rows_of now.levels) there

@@ -22,6 +22,7 @@ pub record RuleRows : Type 0 where
 
 -- what is kept of a rule is right for a memory
 pub record IsRight (came : List Element) (places : List ℕ) (alpha : List Store) (rule : RuleRows) : Type 0 where
+  pub count : length rule.stores ≡ length rule.joins.positives
   pub filed : AreFiled rule.joins.positives came places rule.levels
   pub served : AreStores rule.joins.positives came places rule.stores alpha
   pub right : AreLevels (joins_of rule.joins.positives) came places (rows_of rule.levels)

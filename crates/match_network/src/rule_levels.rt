@@ -118,6 +118,7 @@ fn ask_all(
 ) -> Result<Sequence<u32>, OutOfMemory>
     requires { AreBare alpha.old }
     ensures asked { IfOk result (AreAsked joins.now alpha.new) }
+    ensures count { IfOk result (λ stores. length stores ≡ length joins.now) }
     ensures bare { AreBare alpha.new }
     ensures serve { GoesOn alpha.old alpha.new }
 {

@@ -27,3 +27,8 @@ pub returns-clause-asked : goal.returns-clause-asked
 returns-clause-asked c =
     let l = c.loop-number in
     AreAskedTo-all c.args.joins.now l.number l.alpha l.stores (let le : length c.args.joins.now ≤ l.number = omega (arith, c.loop-number-test.false) in le) l.invariant.asked
+
+pub returns-clause-count : goal.returns-clause-count
+returns-clause-count c =
+    let l = c.loop-number in
+    let all : length l.stores ≡ length c.args.joins.now = omega (arith, l.invariant.asked.long, c.loop-number-test.false, l.auto.number-end) in all
