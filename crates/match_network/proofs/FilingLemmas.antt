@@ -116,7 +116,7 @@ store_step join came e place places true same rest =
     ap (λ o. (option_map_or (λ x. hash_of (key_of_element join.key x)) o 0, place) ∷ store_entries join (came ++ e ∷ []) places) same ∙ ap (λ es. (hash_at join came place, place) ∷ es) rest
 store_step join came e place places false same rest = rest
 
-store-come : (join : Join) (came : List Element) (e : Element) (places : List ℕ) → AllByRecursion (λ p. p < length came) places → store_entries join (came ++ e ∷ []) places ≡ store_entries join came places
+pub store-come : (join : Join) (came : List Element) (e : Element) (places : List ℕ) → AllByRecursion (λ p. p < length came) places → store_entries join (came ++ e ∷ []) places ≡ store_entries join came places
 store-come join came e [] below = refl
 store-come join came e (place ∷ places) below =
     let same = slice_get-more came place (e ∷ []) below.0 in

@@ -29,3 +29,5 @@ pub mod SetLemmas
 pub mod DueLemmas
 pub mod TakeLemmas
 pub mod PassedLemmas
+pub mod StopLemmas
+pub mod SetChangeLemmas

@@ -74,7 +74,7 @@ IsServed-filed join kept came places e old new number below is held = record {
         stores_meet_arrivals join came places e store.entries (entries_at new number) below (now ∙ filed_one join came e store asks) was
 
 -- with the element filed, and nothing woven in yet, a rule begins on its way
-nothing_added : (came : List Element) (place : ℕ) (levels : ℕ → List (List ℕ)) → OnlyAdds came place levels levels
+pub nothing_added : (came : List Element) (place : ℕ) (levels : ℕ → List (List ℕ)) → OnlyAdds came place levels levels
 nothing_added came place levels width = ([], sym (append-nil (levels width)), tt)
 
 pub rule_begins : (came : List Element) (places : List ℕ) (e : Element) (old new : List Store) (rule : RuleRows) → AllByRecursion (λ p. p < length came) places → ((n : ℕ) → slice_get new n ≡ option_map (filed (length came) e) (slice_get old n)) → IsRight came places old rule → IsWoven (came ++ e ∷ []) (places ++ length came ∷ []) (length came) new [] rule rule

@@ -1,13 +1,14 @@
 -- The network: the elements, and what is kept of each rule.
-use Rattle.std.specs.Prelude.{◌≡◌, ℕ, ◌<◌, List, true, if◌then◌else◌, length, map}
+use Rattle.std.specs.Prelude.{◌≡◌, ℕ, ◌<◌, ◌==◌, Bool, List, true, not, if◌then◌else◌, length, map}
 use Rattle.std.specs.List.{AllByRecursion}
 use Rattle.rule_base.specs.declared.element.Element.{Element}
+use Rattle.rule_base.specs.Memory.{Rises}
 use Rattle.rule_base.specs.Numbers.{same_numbers}
 use Rattle.join_tests.specs.declared.joins.Joins.{Joins}
 use Rattle.join_tests.specs.Joining.{are_joined}
 use Rattle.alpha_memory.specs.Stores.{Store}
 use Rattle.match_network.specs.declared.askers.Asker.{Asker}
-use Rattle.match_network.specs.Arrivals.{Arrivals}
+use Rattle.match_network.specs.Arrivals.{Arrivals, with_arrival}
 use Rattle.match_network.specs.Row.{elements_of, is_living}
 use Rattle.match_network.specs.Rules.{AreAskers, IsRight, RuleRows}
 use Rattle.alpha_memory.specs.Times.{times}
@@ -30,3 +31,17 @@ joins_in rules = map (λ (rule : RuleRows). rule.joins) rules
 abbrev pub AreFullMatches : List Element → List ℕ → Joins → List (List ℕ) → Type 0
 AreFullMatches came places joins rows =
     (row : List ℕ) → is_living places row ≡ true → length row ≡ length joins.positives → times (same_numbers row) rows ≡ (if are_joined joins.positives (elements_of came row) then 1 else 0)
+
+-- an element came to this place, and what is kept is right for the memory before it
+pub record IsBefore (now : Arrivals) (e : Element) (place : ℕ) (alpha : List Store) (rules : List RuleRows) (askers : List (List Asker)) : Type 0 where
+  pub before : Arrivals
+  pub is : now ≡ with_arrival before e
+  pub place_is : place ≡ length before.came
+  pub below : AllByRecursion (λ p. p < length before.came) before.places
+  pub rising : Rises now.places
+  pub now_below : AllByRecursion (λ p. p < length now.came) now.places
+  pub held : IsNetwork before.came before.places alpha rules askers
+
+-- whether a place is another one
+abbrev pub other_than : ℕ → ℕ → Bool
+other_than place p = not (p == place)

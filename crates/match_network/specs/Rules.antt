@@ -1,13 +1,13 @@
 -- The rules that a network keeps: what their condition elements ask, and the levels.
 use Rattle.std.specs.Prelude.{◌≡◌, ℕ, ◌<◌, Bool, List, [], ◌∷◌, ◌++◌, ◌==◌, ◌&&◌, true, false, if◌then◌else◌, length, nat_lt, option_and_then, slice_get, slice_index_or, slice_set, Some}
-use Rattle.std.specs.List.{AllByRecursion, list_any}
+use Rattle.std.specs.List.{AllByRecursion, flat_map, list_any}
 use Rattle.std.specs.Option.{option_map_or}
 use Rattle.rule_base.specs.declared.element.Element.{Element}
 use Rattle.rule_base.specs.declared.program.Rule.{Rule}
 use Rattle.join_tests.specs.declared.joins.Join.{Join}
 use Rattle.join_tests.specs.declared.joins.Joins.{Joins}
 use Rattle.join_tests.specs.Meaning.{IsCompiled}
-use Rattle.alpha_memory.specs.Stores.{Serves, Store, without_entries}
+use Rattle.alpha_memory.specs.Stores.{Serves, Store, admits, has_at, without_entries}
 use Rattle.match_network.specs.declared.askers.Asker.{Asker}
 use Rattle.match_network.specs.Conditions.{AreCleaned, AreFiled, AreStores, joins_of, rows_of}
 use Rattle.match_network.specs.Filed.{LevelRows, passes_at}
@@ -119,3 +119,9 @@ pub record IsStep (came : List Element) (places : List ℕ) (place : ℕ) (numbe
   pub adds : OnlyAdds came place (rows_of before.levels) (rows_of after.levels)
   pub filed : AreFiled before.joins.positives came places after.levels
   pub cleaned : AreCleaned places alpha more
+
+-- those who ask the stores that an element passes, by one store after another
+pub record AreAllDue (e : Element) (alpha : List Store) (askers : List (List Asker)) (due : List Asker) : Type 0 where
+  pub passed : List ℕ
+  pub once : (number : ℕ) → times (λ other. number == other) passed ≡ (if has_at (admits e) alpha number then 1 else 0)
+  pub is : due ≡ flat_map (askers_at askers) passed

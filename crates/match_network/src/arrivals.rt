@@ -58,6 +58,9 @@ impl Arrivals {
         ensures place { IfOk result (λ place. place ≡ length self.old.came) }
         ensures ok { OnOk result (self.new ≡ with_arrival self.old (element_in element.entry)) }
         ensures err { OnErr result (self.new ≡ self.old) }
+        ensures tags { Rises (tags_of self.new.came) }
+        ensures rising { Rises self.new.places × AllByRecursion (λ p. p < length self.new.came) self.new.places }
+        ensures below { AllByRecursion (λ p. p < length self.old.came) self.old.places }
         ensures steps { steps.new ≤ steps.old + 2 }
     {
         let place = self.elements.len();

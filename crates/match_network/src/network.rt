@@ -1,14 +1,17 @@
 //! The match network of a program's rules.
 
-ghost use Rattle.std.specs.Prelude.{◌≡◌, ◌+◌, ◌<◌, ◌≤◌, [], IfOk, OnErr, OnOk, length};
+ghost use Rattle.std.specs.Prelude.{◌≡◌, ◌+◌, ◌<◌, ◌≤◌, ◌⊎◌, [], ◌∷◌, ◌++◌, IfOk, OnErr, OnOk, length};
 ghost use Rattle.std.specs.List.{AllByRecursion};
-ghost use Rattle.match_network.specs.Arrivals.{without_tag};
+ghost use Rattle.rule_base.specs.declared.element.Element.{Element};
+ghost use Rattle.rule_base.specs.Views.{element_in};
+ghost use Rattle.match_network.specs.Arrivals.{with_arrival, without_tag};
+ghost use Rattle.match_network.specs.Network.{joins_in};
 ghost use Rattle.match_network.specs.Rules.{AreCompiled};
 
 use crate::Arrivals;
 use crate::rule_set::RuleSet;
 use ops_text::OutOfMemory;
-use rule_base::{Rule, Steps};
+use rule_base::{ElementView, Rule, Steps};
 use std::alloc::Global;
 use std::marker::Model;
 use std::sync::ledger::Ledger;
@@ -42,6 +45,30 @@ impl Network {
             arrivals: Arrivals::new(alloc)?,
             set: RuleSet::new(alloc, rules)?,
         })
+    }
+
+    /// Takes in an element, and finds the partial matches that it makes. After want of memory the element
+    /// isn't in working memory, and all that lives is as before.
+    pub fn add<L: Ledger>(
+        &mut self,
+        element: ElementView<'_>,
+        steps: &mut Steps<L>,
+    ) -> Result<(), OutOfMemory>
+        requires { AllByRecursion (λ (e : Element). e.tag < element.tag) self.old.arrivals.came }
+        ensures ok { OnOk result (self.new.arrivals ≡ with_arrival self.old.arrivals (element_in element.entry)) }
+        ensures err { OnErr result (self.new.arrivals.places ≡ self.old.arrivals.places) }
+        ensures joins { joins_in self.new.rules ≡ joins_in self.old.rules }
+
+        // After want of memory the element may have come, and be dead.
+        ensures came { OnErr result ((self.new.arrivals.came ≡ self.old.arrivals.came)
+            ⊎ (self.new.arrivals.came ≡ self.old.arrivals.came ++ element_in element.entry ∷ [])) }
+    {
+        let place = self.arrivals.insert(element, steps)?;
+        if let Err(want) = self.set.take_in(place, element, &self.arrivals, steps) {
+            self.arrivals.remove(element.tag, steps);
+            return Err(want);
+        }
+        Ok(())
     }
 
     /// Takes the element with this tag out of working memory, if it is there. Its rows stay, as dead ones.

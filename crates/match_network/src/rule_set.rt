@@ -1,16 +1,20 @@
 //! All rules, and the stores that they share.
 
-ghost use Rattle.std.specs.Prelude.{◌≡◌, [], ◌∷◌, ◌++◌, IfOk, OnErr, OnOk};
+ghost use Rattle.std.specs.Prelude.{◌≡◌, [], ◌∷◌, ◌++◌, IfOk, OnErr, OnOk, filter, map};
 ghost use Rattle.join_tests.specs.Meaning.{IsCompiled};
-ghost use Rattle.match_network.specs.Network.{IsNetwork};
-ghost use Rattle.match_network.specs.Rules.{AreBare, AreCompiled, IsAdded};
+ghost use Rattle.rule_base.specs.Views.{element_in};
+ghost use Rattle.alpha_memory.specs.Stores.{AreFiledOrNot, filed};
+ghost use Rattle.match_network.specs.Network.{IsBefore, IsNetwork, joins_in, other_than};
+ghost use Rattle.match_network.specs.Rules.{AreAllDue, AreBare, AreCompiled, IsAdded};
 
-use crate::RuleLevels;
-use crate::askers::{Asker, note_all};
+use crate::askers::{Asker, collect, note_all};
+use crate::due::weave_all;
+use crate::{Arrivals, RuleLevels};
 use alpha_memory::AlphaMemory;
 use ops_text::{OutOfMemory, Sequence};
-use rule_base::Rule;
+use rule_base::{ElementView, Rule, Steps};
 use std::alloc::Global;
+use std::sync::ledger::Ledger;
 
 /// The rules by number, and the alpha stores.
 #[derive(Drop)]
@@ -19,6 +23,9 @@ pub(crate) struct RuleSet {
     pub(crate) rules: Vec<RuleLevels>,
     /// By the number of a store, the condition elements that ask it.
     pub(crate) askers: Vec<Sequence<Asker>>,
+    /// Room for the numbers of the stores that an element passes, and for those who ask them.
+    passed: Vec<u32>,
+    due: Vec<Asker>,
 }
 
 impl RuleSet {
@@ -31,6 +38,8 @@ impl RuleSet {
             alpha: AlphaMemory::new(alloc),
             rules: Vec::new(alloc),
             askers: Vec::new(alloc),
+            passed: Vec::new(alloc),
+            due: Vec::new(alloc),
         };
         for number in 0..rules.len() {
             set.push(alloc, &rules[number])?;
@@ -51,5 +60,47 @@ impl RuleSet {
         note_all(alloc, number, levels.stores(), &mut self.askers)?;
         self.rules.push(levels)?;
         Ok(())
+    }
+
+    /// Weaves the element that came to a place in wherever it passes.
+    pub(crate) fn take_in<L: Ledger>(
+        &mut self,
+        place: u32,
+        element: ElementView<'_>,
+        arrivals: &Arrivals,
+        steps: &mut Steps<L>,
+    ) -> Result<(), OutOfMemory>
+        requires { IsBefore arrivals.now (element_in element) place self.old.alpha self.old.rules.items self.old.askers.items }
+        ensures ok { OnOk result (IsNetwork arrivals.now.came arrivals.now.places self.new.alpha self.new.rules.items self.new.askers.items) }
+        ensures err { OnErr result (IsNetwork arrivals.now.came (filter (other_than place) arrivals.now.places) self.new.alpha self.new.rules.items self.new.askers.items) }
+        ensures joins { joins_in self.new.rules.items ≡ joins_in self.old.rules.items }
+    {
+        self.find_due(place, element)?;
+        weave_all(
+            self.due.as_slice(),
+            place,
+            arrivals,
+            &mut self.alpha,
+            self.rules.as_mut_slice(),
+            steps,
+        )
+    }
+
+    /// Files an element that came to a place in the stores that it passes, and finds who asks them.
+    fn find_due(&mut self, place: u32, element: ElementView<'_>) -> Result<(), OutOfMemory>
+        ensures filed { OnOk result (self.new.alpha ≡ map (filed place (element_in element.entry)) self.old.alpha) }
+        ensures due { OnOk result (AreAllDue (element_in element.entry) self.old.alpha self.old.askers.items self.new.due.items) }
+        ensures err { OnErr result (AreFiledOrNot place (element_in element.entry) self.old.alpha self.new.alpha) }
+        ensures rules { self.new.rules ≡ self.old.rules }
+        ensures askers { self.new.askers ≡ self.old.askers }
+    {
+        self.passed.clear();
+        self.due.clear();
+        self.alpha.file(place, element, &mut self.passed)?;
+        collect(
+            self.askers.as_slice(),
+            self.passed.as_slice(),
+            &mut self.due,
+        )
     }
 }
