@@ -1,15 +1,17 @@
 //! The match network of a program's rules.
 
-ghost use Rattle.std.specs.Prelude.{◌≡◌, ◌+◌, ◌<◌, ◌≤◌, ◌⊎◌, [], ◌∷◌, ◌++◌, IfOk, OnErr, OnOk, length};
+ghost use Rattle.std.specs.Prelude.{◌≡◌, ◌+◌, ◌<◌, ◌≤◌, ◌⊎◌, [], ◌∷◌, ◌++◌, IfOk, OnErr, OnOk, Some, length, slice_get};
 ghost use Rattle.std.specs.List.{AllByRecursion};
 ghost use Rattle.rule_base.specs.declared.element.Element.{Element};
 ghost use Rattle.rule_base.specs.Views.{element_in};
 ghost use Rattle.match_network.specs.Arrivals.{with_arrival, without_tag};
+ghost use Rattle.match_network.specs.Conditions.{joins_of, rows_of};
+ghost use Rattle.match_network.specs.Levels.{AreLevels};
 ghost use Rattle.match_network.specs.Network.{joins_in};
 ghost use Rattle.match_network.specs.Rules.{AreCompiled};
 
-use crate::Arrivals;
 use crate::rule_set::RuleSet;
+use crate::{Arrivals, RuleLevels};
 use ops_text::OutOfMemory;
 use rule_base::{ElementView, Rule, Steps};
 use std::alloc::Global;
@@ -80,5 +82,29 @@ impl Network {
         ensures steps { steps.new ≤ steps.old + 2 }
     {
         self.arrivals.remove(tag, steps);
+    }
+
+    /// How many rules there are.
+    pub fn len(&self) -> usize
+        ensures { result ≡ length self.now.rules }
+    {
+        self.set.rules.len()
+    }
+
+    /// What is kept of the rule with this number. Its rows of elements in working memory are its partial
+    /// matches, each once.
+    pub fn rule(&self, number: usize) -> &RuleLevels
+        requires { number < length self.now.rules }
+        ensures rule { slice_get self.now.rules number ≡ Some result.now }
+        ensures right { AreLevels (joins_of result.now.joins.positives) self.now.arrivals.came self.now.arrivals.places (rows_of result.now.levels) }
+    {
+        &self.set.rules[number]
+    }
+
+    /// The elements that came, and which of them are in working memory.
+    pub fn arrivals(&self) -> &Arrivals
+        ensures { result.now ≡ self.now.arrivals }
+    {
+        &self.arrivals
     }
 }
