@@ -1,24 +1,23 @@
 -- Rules on their way to a memory with one element more.
-use Rattle.std.proofs.Common.{◌≡◌, inl, inr, ℕ, zero, suc, ◌+◌, ◌<◌, ◌≤◌, ◌==◌, ◌&&◌, ◌||◌, List, [], ◌∷◌, ◌++◌, Bool, true, false, cond, get_or, length, Option, Some, refl, ap, subst, sym, ◌∙◌, arith, set, slice_get, take}
+use Rattle.std.proofs.Common.{◌≡◌, inl, inr, ℕ, zero, suc, ◌+◌, ◌<◌, ◌≤◌, ◌==◌, ◌&&◌, ◌||◌, List, [], ◌∷◌, ◌++◌, Bool, true, false, cond, get_or, length, Some, refl, ap, subst, sym, ◌∙◌, arith, set, slice_get, take}
 use Rattle.std.specs.List.{AllByRecursion, list_any}
 use Rattle.std.proofs.lemmas.Bool.{cases_eq, eq-eqb, ne_eqb}
-use Rattle.std.proofs.lemmas.List.{length-set, take_all, take_more}
+use Rattle.std.proofs.lemmas.List.{length-set, take_more}
 use Rattle.rule_base.specs.declared.element.Element.{Element}
 use Rattle.rule_base.specs.Memory.{Rises}
 use Rattle.join_tests.specs.declared.joins.Join.{Join}
 use Rattle.join_tests.specs.declared.joins.Joins.{Joins}
 use Rattle.alpha_memory.specs.Stores.{Store}
 use Rattle.match_network.specs.declared.askers.Asker.{Asker}
-use Rattle.match_network.specs.Conditions.{AreCleaned, AreFiled, AreStores, joins_of, rows_of}
+use Rattle.match_network.specs.Conditions.{AreFiled, AreStores, joins_of, rows_of}
 use Rattle.match_network.specs.Filed.{passes_at}
-use Rattle.match_network.specs.Levels.{AreWoven, OnlyAdds}
+use Rattle.match_network.specs.Levels.{AreWoven}
 use Rattle.match_network.specs.Rules.{AreStopped, AreWovenIn, IsDue, IsKept, IsStep, IsStopped, IsWoven, RuleRows, is_asker}
 use Rattle.alpha_memory.specs.Times.{times}
 use Rattle.match_network.specs.Woven.{woven}
-use Rattle.match_network.proofs.ComeLemmas.{slice_get-here}
 use Rattle.match_network.proofs.GivenLemmas.{get_or-is, within-is}
 use Rattle.match_network.proofs.LevelLemmas.{adding_goes_on, weaving_goes_on}
-use Rattle.match_network.proofs.StoreLemmas.{AreCleaned-none, AreStores-cleaned}
+use Rattle.match_network.proofs.StoreLemmas.{AreStores-cleaned}
 use Rattle.alpha_memory.proofs.TimesLemmas.{times-append}
 
 -- one rule is written
@@ -103,24 +102,22 @@ woven_more came places place alpha more before_due asker old now new rises below
               (AreStores-cleaned step.before.joins.positives came places step.before.stores alpha more step.cleaned w.served));
           adds = adding_goes_on came place (rows_of before.levels) (rows_of step.before.levels) (rows_of step.after.levels) w.adds step.adds;
           woven = subst (λ (j : Joins). AreWoven (joins_of j.positives) came places place (asker.condition ∷ done) (rows_of step.after.levels)) (sym step.joins) goes;
-        } in
-        (
+        } in (
           asker.condition ∷ done,
           (λ k. ap (λ b. (asker.condition == k) || b) (was.1 k)
-          ∙ ap (λ b. (b && (asker.condition == k)) || list_any (is_asker asker.rule k) before_due) (sym (eq-eqb asker.rule asker.rule refl))
-          ∙ sym (any-append (is_asker asker.rule k) before_due asker)
-          ∙ ap (λ n. list_any (is_asker n k) (before_due ++ asker ∷ [])) (sym same)),
+              ∙ ap (λ b. (b && (asker.condition == k)) || list_any (is_asker asker.rule k) before_due) (sym (eq-eqb asker.rule asker.rule refl))
+              ∙ sym (any-append (is_asker asker.rule k) before_due asker)
+              ∙ ap (λ n. list_any (is_asker n k) (before_due ++ asker ∷ [])) (sym same)),
           subst (λ (r : RuleRows). IsWoven came places place more (asker.condition ∷ done) before r) after_is is,
         )
     | inr apart ↦
         let kept : slice_get now number ≡ Some after = sym (ap (λ rs. slice_get rs number) step.is ∙ set_other now asker.rule number step.after apart) ∙ got in
         let was = held.each number before after there kept in
-        let w = was.2 in
-        (
+        let w = was.2 in (
           was.0,
           (λ k. was.1 k
-          ∙ ap (λ b. (b && (asker.condition == k)) || list_any (is_asker number k) before_due) (sym (ne_eqb asker.rule number (λ same. apart (sym same))))
-          ∙ sym (any-append (is_asker number k) before_due asker)),
+              ∙ ap (λ b. (b && (asker.condition == k)) || list_any (is_asker number k) before_due) (sym (ne_eqb asker.rule number (λ same. apart (sym same))))
+              ∙ sym (any-append (is_asker number k) before_due asker)),
           record {
             joins = w.joins;
             stores = w.stores;

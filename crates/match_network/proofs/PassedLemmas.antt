@@ -1,5 +1,5 @@
 -- Which condition elements are due: those whose stores an element passes, each once.
-use Rattle.std.proofs.Common.{◌≡◌, inl, inr, ℕ, zero, suc, ◌+◌, ◌<◌, ◌≤◌, ◌==◌, ◌&&◌, ◌||◌, List, [], ◌∷◌, ◌++◌, Bool, true, false, cond, length, map, nat_lt, Option, None, Some, refl, ap, subst, sym, ◌∙◌, arith, slice_get, option_and_then}
+use Rattle.std.proofs.Common.{◌≡◌, ℕ, ◌+◌, ◌<◌, ◌≤◌, ◌==◌, ◌&&◌, ◌||◌, List, [], ◌∷◌, Bool, true, false, cond, length, map, nat_lt, Option, None, Some, refl, ap, sym, ◌∙◌, arith, slice_get, option_and_then}
 use Rattle.std.specs.List.{AllByRecursion, flat_map, list_any}
 use Rattle.std.specs.Option.{option_map, option_map_or}
 use Rattle.std.proofs.lemmas.Bool.{eq-eqb}
@@ -13,9 +13,8 @@ use Rattle.alpha_memory.specs.Times.{times}
 use Rattle.alpha_memory.proofs.ServesLemmas.{Serves-within}
 use Rattle.alpha_memory.proofs.TimesLemmas.{times-flat_map}
 use Rattle.match_network.specs.declared.askers.Asker.{Asker}
-use Rattle.match_network.specs.Filed.{passes_at}
 use Rattle.match_network.specs.Row.{some_passes}
-use Rattle.match_network.specs.Rules.{AreAskers, IsDue, IsRight, RuleRows, askers_at, asks, is_asker}
+use Rattle.match_network.specs.Rules.{AreAskers, IsDue, IsRight, RuleRows, askers_at, is_asker}
 use Rattle.match_network.proofs.ComeLemmas.{some_at}
 use Rattle.match_network.proofs.GivenLemmas.{within-is}
 use Rattle.match_network.proofs.TakeLemmas.{asks_so}

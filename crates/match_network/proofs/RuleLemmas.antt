@@ -1,20 +1,14 @@
 -- What is kept of a rule, at the start and as other rules come.
-use Rattle.std.proofs.Common.{◌≡◌, ◌⊎◌, inl, inr, ℕ, zero, suc, ◌+◌, ◌<◌, ◌≤◌, ◌==◌, ◌&&◌, List, [], ◌∷◌, ◌++◌, Bool, true, false, cond, get_or, length, map, nat_lt, Option, None, Some, refl, ap, subst, sym, ◌∙◌, arith, slice_get, length-append, take}
-use Rattle.std.specs.List.{AllByRecursion}
-use Rattle.std.specs.Option.{option_map_or}
+use Rattle.std.proofs.Common.{◌≡◌, ◌⊎◌, inl, inr, ℕ, zero, suc, ◌+◌, ◌<◌, ◌≤◌, List, [], ◌∷◌, ◌++◌, length, nat_lt, Some, refl, ap, subst, sym, ◌∙◌, arith, slice_get, length-append, take}
 use Rattle.std.proofs.lemmas.Bool.{cases_eq}
-use Rattle.rule_base.specs.declared.element.Element.{Element}
-use Rattle.rule_base.specs.declared.program.Rule.{Rule}
-use Rattle.rule_base.proofs.EachLemmas.{Each-append, Each-slice_get, Each-weaker}
+use Rattle.rule_base.proofs.EachLemmas.{Each-append}
 use Rattle.join_tests.specs.declared.joins.Join.{Join}
-use Rattle.join_tests.specs.declared.joins.Joins.{Joins}
-use Rattle.join_tests.specs.Meaning.{IsCompiled}
 use Rattle.alpha_memory.specs.Stores.{Serves, Store, without_entries}
 use Rattle.alpha_memory.proofs.ServesLemmas.{Serves-push}
-use Rattle.match_network.specs.Conditions.{AreStores, IsServed, entries_at}
-use Rattle.match_network.specs.Filed.{IsStore, LevelRows}
-use Rattle.match_network.specs.Rules.{AreAsked, AreBare, AreCompiled, GoesOn, IsRight, RuleRows}
-use Rattle.match_network.proofs.ComeLemmas.{slice_get-here, slice_get-more}
+use Rattle.match_network.specs.Conditions.{AreStores, entries_at}
+use Rattle.match_network.specs.Filed.{IsStore}
+use Rattle.match_network.specs.Rules.{AreAsked, AreBare, GoesOn, IsRight, RuleRows}
+use Rattle.match_network.proofs.ComeLemmas.{slice_get-more}
 
 pub GoesOn-none : (stores : List Store) → GoesOn stores stores
 GoesOn-none stores = record { serves = λ wanted number held. held }
@@ -62,8 +56,7 @@ AreAskedTo-more all count old new numbers more this number there_now goes_on ser
         (number, ap (λ ns. slice_get ns at) is ∙ ap (slice_get (numbers ++ number ∷ [])) (same ∙ sym held.long) ∙ last_at numbers number, served)
     | inr apart ↦
         let less : at < count = omega (arith, lt, apart) in
-        let found = held.each at join less there in
-        (
+        let found = held.each at join less there in (
           found.0,
           ap (λ ns. slice_get ns at) is ∙ slice_get-more numbers at (number ∷ []) (let within : at < length numbers = omega (arith, less, held.long) in within) ∙ found.1,
           goes_on.serves (without_entries join.pattern join.key (nat_lt 0 at)) found.0 found.2,

@@ -1,6 +1,6 @@
 -- All rules, as an element comes.
-use Rattle.std.proofs.Common.{◌≡◌, inl, inr, ℕ, zero, suc, ◌+◌, ◌<◌, ◌≤◌, ◌==◌, List, [], ◌∷◌, ◌++◌, Bool, true, cond, filter, length, map, Option, Some, refl, ap, subst, sym, ◌∙◌, arith, slice_get, Result, Ok, Err}
-use Rattle.std.specs.List.{AllByRecursion, flat_map, list_any}
+use Rattle.std.proofs.Common.{◌≡◌, ℕ, zero, suc, ◌<◌, ◌≤◌, ◌==◌, List, [], ◌∷◌, ◌++◌, true, filter, length, map, Some, refl, ap, subst, sym, ◌∙◌, arith, slice_get, Result, Ok, Err}
+use Rattle.std.specs.List.{AllByRecursion, list_any}
 use Rattle.std.specs.Option.{option_map}
 use Rattle.std.specs.Result.{OnErr}
 use Rattle.std.proofs.lemmas.Bool.{eq-eqb}
@@ -8,19 +8,16 @@ use Rattle.std.proofs.lemmas.Option.{slice_get-map}
 use Rattle.rule_base.specs.declared.element.Element.{Element}
 use Rattle.rule_base.specs.Memory.{Rises, tags_of}
 use Rattle.rule_base.proofs.EachLemmas.{Each-slice_get}
-use Rattle.join_tests.specs.declared.joins.Join.{Join}
-use Rattle.join_tests.specs.declared.joins.Joins.{Joins}
-use Rattle.join_tests.specs.Joining.{passes}
-use Rattle.alpha_memory.specs.Stores.{AreFiledOrNot, Store, admits, filed, has_at}
+use Rattle.alpha_memory.specs.Stores.{AreFiledOrNot, Store, filed}
 use Rattle.alpha_memory.specs.Times.{times}
 use Rattle.match_network.specs.declared.askers.Asker.{Asker}
 use Rattle.match_network.specs.Arrivals.{Arrivals, has_tag, with_arrival, without_tag}
 use Rattle.match_network.specs.Row.{some_passes}
 use Rattle.match_network.specs.Network.{IsBefore, IsNetwork, joins_in, other_than}
-use Rattle.match_network.specs.Rules.{AreAllDue, AreAskers, AreStopped, AreWovenIn, IsDue, IsRight, RuleRows, askers_at, is_asker}
+use Rattle.match_network.specs.Rules.{AreAllDue, AreAskers, AreStopped, AreWovenIn, IsDue, IsRight, RuleRows, is_asker}
 use Rattle.match_network.proofs.ComeLemmas.{some_at}
 use Rattle.match_network.proofs.GivenLemmas.{within-is}
-use Rattle.match_network.proofs.PassedLemmas.{ArePassed, all_due, due_once, passed_is_due}
+use Rattle.match_network.proofs.PassedLemmas.{all_due, due_once, passed_is_due}
 use Rattle.match_network.proofs.StopLemmas.{each_by_number, rule_left, rules_stopped, without_last}
 use Rattle.match_network.proofs.TagLemmas.{only_one_goes}
 use Rattle.match_network.proofs.TakeLemmas.{last_came, rule_ends, rules_begin}

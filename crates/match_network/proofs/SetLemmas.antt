@@ -1,17 +1,15 @@
 -- One rule more, and elements that go.
-use Rattle.std.proofs.Common.{◌≡◌, inl, inr, ℕ, zero, suc, ◌+◌, ◌<◌, ◌≤◌, ◌==◌, List, [], ◌∷◌, ◌++◌, Bool, not, filter, length, map, Some, refl, ap, subst, sym, ◌∙◌, arith, slice_get, length-append}
-use Rattle.std.specs.List.{AllByRecursion}
+use Rattle.std.proofs.Common.{◌≡◌, inl, inr, ℕ, suc, ◌+◌, ◌<◌, List, [], ◌∷◌, ◌++◌, Bool, not, filter, length, map, Some, refl, ap, subst, sym, ◌∙◌, arith, slice_get, length-append}
 use Rattle.std.proofs.lemmas.Bool.{cases_eq}
 use Rattle.std.proofs.lemmas.List.{map-append}
 use Rattle.rule_base.specs.declared.element.Element.{Element}
 use Rattle.rule_base.specs.declared.program.Rule.{Rule}
 use Rattle.rule_base.proofs.EachLemmas.{Each-append, Each-weaker}
-use Rattle.join_tests.specs.declared.joins.Join.{Join}
 use Rattle.join_tests.specs.Meaning.{IsCompiled}
 use Rattle.alpha_memory.specs.Stores.{Store}
 use Rattle.match_network.specs.declared.askers.Asker.{Asker}
 use Rattle.match_network.specs.Arrivals.{Arrivals, has_tag, without_tag}
-use Rattle.match_network.specs.Conditions.{AreStores, IsServed, entries_at, joins_of, rows_of}
+use Rattle.match_network.specs.Conditions.{entries_at, joins_of, rows_of}
 use Rattle.match_network.specs.Network.{IsNetwork}
 use Rattle.match_network.specs.Rules.{AreAskers, AreBare, AreCompiled, GoesOn, IsAdded, IsRight, RuleRows}
 use Rattle.match_network.proofs.ComeLemmas.{slice_get-more}
@@ -19,7 +17,6 @@ use Rattle.match_network.proofs.FilingLemmas.{levels_meet_removals, stores_meet_
 use Rattle.match_network.proofs.GivenLemmas.{within-is}
 use Rattle.match_network.proofs.LevelLemmas.{places_may_go}
 use Rattle.match_network.proofs.RuleLemmas.{bare_right}
-
 
 all_there : (rules : List RuleRows) → length (map (λ (rule : RuleRows). rule.stores) rules) ≡ length rules
 all_there [] = refl

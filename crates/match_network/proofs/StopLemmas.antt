@@ -1,5 +1,5 @@
 -- An element was to come, and memory ran out: the rules are right for the memory without it.
-use Rattle.std.proofs.Common.{◌≡◌, ◌⊎◌, inl, inr, ℕ, zero, suc, ◌+◌, ◌<◌, ◌==◌, List, [], ◌∷◌, ◌++◌, Bool, true, false, not, cond, filter, length, map, nat_lt, Option, None, Some, refl, ap, subst, sym, ◌∙◌, arith, slice_get, length-append}
+use Rattle.std.proofs.Common.{◌≡◌, inl, inr, ℕ, zero, suc, ◌<◌, List, [], ◌∷◌, ◌++◌, Bool, true, not, cond, filter, length, map, nat_lt, Option, Some, refl, ap, subst, sym, ◌∙◌, arith, slice_get, length-append}
 use Rattle.std.specs.List.{AllByRecursion}
 use Rattle.std.specs.Option.{option_map, option_map_or}
 use Rattle.std.proofs.lemmas.Bool.{eq-eqb, ne_eqb}
@@ -79,8 +79,7 @@ rule_stopped came places e old new before after below was held = record {
   filed = subst (λ ps. AreFiled after.joins.positives (came ++ e ∷ []) ps after.levels) (without_last places (length came) below)
       (levels_meet_removals after.joins.positives (came ++ e ∷ []) (places ++ length came ∷ []) (other_than (length came)) after.levels held.filed);
   served = λ at join there.
-      let found = held.served at join there in
-      (
+      let found = held.served at join there in (
         found.0,
         found.1,
         record {

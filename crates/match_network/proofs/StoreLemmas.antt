@@ -1,5 +1,5 @@
 -- Stores that were cleaned serve as before.
-use Rattle.std.proofs.Common.{◌≡◌, ℕ, ◌<◌, ◌==◌, List, [], ◌∷◌, Bool, true, false, cond, length, refl, ap, subst, sym, ◌∙◌, arith, nat_lt, Option, None, Some, slice_get, zero, suc}
+use Rattle.std.proofs.Common.{◌≡◌, ℕ, ◌<◌, ◌==◌, List, [], Bool, true, false, cond, length, refl, ap, subst, sym, ◌∙◌, arith, nat_lt, Option, None, Some, slice_get}
 use Rattle.std.specs.List.{filter}
 use Rattle.std.specs.Option.{option_map, option_map_or}
 use Rattle.std.proofs.lemmas.Bool.Decides.{nat_tests}
@@ -11,7 +11,6 @@ use Rattle.alpha_memory.specs.Stores.{Store, cleaned, emptied, with_change, with
 use Rattle.alpha_memory.proofs.ChangeLemmas.{slice_get-with_change}
 use Rattle.alpha_memory.proofs.ServesLemmas.{Serves-within}
 use Rattle.match_network.specs.Conditions.{AreCleaned, AreStores, IsServed, entries_at}
-use Rattle.match_network.specs.Filed.{IsStore}
 use Rattle.match_network.specs.Joining.{IsCleaned}
 use Rattle.match_network.proofs.FiledLemmas.{IsCleaned-more, IsCleaned-none, IsCleaned-stays, IsStore-cleaned}
 

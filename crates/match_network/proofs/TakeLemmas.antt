@@ -1,25 +1,23 @@
 -- An element comes: the rules begin on their way, and end it.
-use Rattle.std.proofs.Common.{◌≡◌, ◌⊎◌, inl, inr, ℕ, zero, suc, ◌+◌, ◌<◌, ◌≤◌, ◌==◌, ◌&&◌, ◌||◌, List, [], ◌∷◌, ◌++◌, Bool, true, false, not, cond, filter, get_or, length, map, nat_lt, Option, None, Some, refl, ap, subst, sym, ◌∙◌, arith, slice_get, length-append}
-use Rattle.std.specs.List.{AllByRecursion, flat_map, list_any}
+use Rattle.std.proofs.Common.{◌≡◌, inr, ℕ, ◌<◌, ◌==◌, ◌&&◌, List, [], ◌∷◌, ◌++◌, Bool, true, false, cond, length, map, nat_lt, Option, None, Some, refl, ap, subst, sym, ◌∙◌, slice_get}
+use Rattle.std.specs.List.{AllByRecursion, list_any}
 use Rattle.std.specs.Option.{option_map, option_map_or}
 use Rattle.std.proofs.lemmas.Bool.{and_parts}
 use Rattle.std.proofs.lemmas.List.{append-nil}
 use Rattle.rule_base.specs.declared.element.Element.{Element}
-use Rattle.rule_base.specs.Numbers.{has_number}
-use Rattle.rule_base.proofs.EachLemmas.{Each-slice_get, Each-weaker}
+use Rattle.rule_base.proofs.EachLemmas.{Each-slice_get}
 use Rattle.join_tests.specs.declared.joins.Join.{Join}
 use Rattle.join_tests.specs.declared.joins.Joins.{Joins}
 use Rattle.join_tests.specs.Hashing.{hash_of}
 use Rattle.join_tests.specs.Joining.{joins, key_of_element, passes, same_key, tests_hold}
-use Rattle.alpha_memory.specs.Stores.{AreFiledOrNot, Serves, Store, admits, emptied, filed, has_at, attributes_of, hash_at, without_entries}
+use Rattle.alpha_memory.specs.Stores.{Serves, Store, emptied, filed, attributes_of, hash_at, without_entries}
 use Rattle.alpha_memory.proofs.EntryLemmas.{hash_at-key}
 use Rattle.alpha_memory.proofs.ServesLemmas.{Serves-filed_or_not}
-use Rattle.match_network.specs.declared.askers.Asker.{Asker}
-use Rattle.match_network.specs.Conditions.{AreStores, IsServed, entries_at, joins_of, rows_of}
-use Rattle.match_network.specs.Filed.{IsStore, passes_at, store_entries}
+use Rattle.match_network.specs.Conditions.{IsServed, entries_at, joins_of, rows_of}
+use Rattle.match_network.specs.Filed.{IsStore, store_entries}
 use Rattle.match_network.specs.Levels.{OnlyAdds}
 use Rattle.match_network.specs.Row.{some_passes}
-use Rattle.match_network.specs.Rules.{AreWovenIn, IsRight, IsWoven, RuleRows, is_asker}
+use Rattle.match_network.specs.Rules.{AreWovenIn, IsRight, IsWoven, RuleRows}
 use Rattle.match_network.proofs.FilingLemmas.{levels_meet_arrivals, stores_meet_arrivals}
 use Rattle.match_network.proofs.LevelLemmas.{weaving_begins, weaving_ends}
 

@@ -1,17 +1,13 @@
 -- The network: the elements, and what is kept of each rule.
-use Rattle.std.specs.Prelude.{◌≡◌, ℕ, ◌<◌, ◌==◌, Bool, List, true, not, if◌then◌else◌, length, map}
+use Rattle.std.specs.Prelude.{◌≡◌, ℕ, ◌<◌, ◌==◌, Bool, List, not, length, map}
 use Rattle.std.specs.List.{AllByRecursion}
 use Rattle.rule_base.specs.declared.element.Element.{Element}
 use Rattle.rule_base.specs.Memory.{Rises}
-use Rattle.rule_base.specs.Numbers.{same_numbers}
 use Rattle.join_tests.specs.declared.joins.Joins.{Joins}
-use Rattle.join_tests.specs.Joining.{are_joined}
 use Rattle.alpha_memory.specs.Stores.{Store}
 use Rattle.match_network.specs.declared.askers.Asker.{Asker}
 use Rattle.match_network.specs.Arrivals.{Arrivals, with_arrival}
-use Rattle.match_network.specs.Row.{elements_of, is_living}
 use Rattle.match_network.specs.Rules.{AreAskers, IsRight, RuleRows}
-use Rattle.alpha_memory.specs.Times.{times}
 
 -- the elements that came, those in working memory, and the rules
 pub record Network : Type 0 where
@@ -26,11 +22,6 @@ pub record IsNetwork (came : List Element) (places : List ℕ) (alpha : List Sto
 -- the joins of all rules
 abbrev pub joins_in : List RuleRows → List Joins
 joins_in rules = map (λ (rule : RuleRows). rule.joins) rules
-
--- of the rows of living elements for all positive condition elements, those that the joins take are held once, and no others
-abbrev pub AreFullMatches : List Element → List ℕ → Joins → List (List ℕ) → Type 0
-AreFullMatches came places joins rows =
-    (row : List ℕ) → is_living places row ≡ true → length row ≡ length joins.positives → times (same_numbers row) rows ≡ (if are_joined joins.positives (elements_of came row) then 1 else 0)
 
 -- an element came to this place, and what is kept is right for the memory before it
 pub record IsBefore (now : Arrivals) (e : Element) (place : ℕ) (alpha : List Store) (rules : List RuleRows) (askers : List (List Asker)) : Type 0 where

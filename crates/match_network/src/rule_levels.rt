@@ -105,7 +105,14 @@ impl RuleLevels {
             stores: self.stores.as_slice(),
             arrivals,
         };
-        weave(&conditions, at, place, alpha, self.levels.as_mut_slice(), steps)
+        weave(
+            &conditions,
+            at,
+            place,
+            alpha,
+            self.levels.as_mut_slice(),
+            steps,
+        )
     }
 }
 

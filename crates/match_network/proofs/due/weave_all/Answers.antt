@@ -1,5 +1,5 @@
 -- One condition element more.
-use Rattle.std.proofs.Common.{◌≡◌, ◌+◌, ◌<◌, ◌∷◌, [], ◌++◌, List, ap, arith, get_or, length, subst, sym, take, ◌∙◌}
+use Rattle.std.proofs.Common.{◌<◌, List, arith, get_or, length, subst, sym, take}
 use Rattle.std.proofs.lemmas.List.{get_or_default, take_more}
 use Rattle.rule_base.proofs.EachLemmas.{Each-slice_get}
 use Rattle.match_network.specs.declared.askers.Asker.{Asker}

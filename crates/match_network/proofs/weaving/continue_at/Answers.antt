@@ -1,5 +1,5 @@
 -- The level at the number is given what comes of the last rows before it.
-use Rattle.std.proofs.Common.{◌≡◌, ◌+◌, ◌-◌, ◌<◌, [], arith, drop, get_or, length, nat_lt, set, subst, sym, true}
+use Rattle.std.proofs.Common.{◌≡◌, ◌+◌, ◌-◌, ◌<◌, arith, drop, get_or, length, nat_lt, subst, sym, true}
 use Rattle.std.specs.List.{AllByRecursion}
 use Rattle.std.specs.Result.{OnErr, OnOk}
 use Rattle.match_network.specs.Arrivals.{Arrivals}

@@ -1,5 +1,5 @@
 -- One rule more is right.
-use Rattle.std.proofs.Common.{◌≡◌, ◌++◌, [], ◌∷◌, List, ℕ, arith, length, subst, sym}
+use Rattle.std.proofs.Common.{◌++◌, [], ◌∷◌, List, ℕ, arith, subst, sym}
 use Rattle.match_network.specs.Network.{IsNetwork}
 use Rattle.match_network.specs.Rules.{AreAskers, RuleRows}
 use Rattle.match_network.proofs.SetLemmas.{IsNetwork-push}
