@@ -1,6 +1,6 @@
 //! What the network keeps of one rule.
 
-ghost use Rattle.std.specs.Prelude.{◌≡◌, ℕ, ◌<◌, [], IfOk, IfSome, OnErr, OnOk, Some, length, slice_get, true};
+ghost use Rattle.std.specs.Prelude.{◌≡◌, ℕ, ◌<◌, [], IfOk, IfSome, None, OnErr, OnOk, Some, length, slice_get, true};
 ghost use Rattle.std.specs.List.{AllByRecursion, list_any};
 ghost use Rattle.join_tests.specs.declared.joins.Join.{Join};
 ghost use Rattle.join_tests.specs.Meaning.{IsCompiled};
@@ -71,6 +71,7 @@ impl RuleLevels {
     pub fn rows(&self) -> Option<&Rows>
         ensures some { IfSome result (λ rows. rows.now.rows ≡ rows_of self.now.levels (length self.now.levels)) }
         ensures within { IfSome result (λ rows. 0 < length self.now.levels) }
+        ensures none { result ≡ None → self.now.levels ≡ [] }
     {
         match self.levels.last() {
             Some(level) => Some(level.rows()),

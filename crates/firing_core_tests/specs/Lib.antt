@@ -1,0 +1,3 @@
+-- what the tests' own fixtures keep
+pub mod Bases
+pub mod Desk
