@@ -134,7 +134,7 @@ living_step true true false rest rest_old is differs before living = absurd (let
 living_step true false false rest rest_old is differs before living = absurd (let wrong : ⊥ = cc in wrong)
 living_step false same in_old rest rest_old is differs before living = absurd (let wrong : ⊥ = cc in wrong)
 
-lived_before : (places : List ℕ) (place : ℕ) (row : List ℕ) → has_number row place ≡ false → is_living (places ++ place ∷ []) row ≡ true → is_living places row ≡ true
+pub lived_before : (places : List ℕ) (place : ℕ) (row : List ℕ) → has_number row place ≡ false → is_living (places ++ place ∷ []) row ≡ true → is_living places row ≡ true
 lived_before places place [] without living = refl
 lived_before places place (next ∷ row) without living =
     let parts = or_parts (next == place) (has_number row place) without in

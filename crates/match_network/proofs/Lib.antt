@@ -22,6 +22,10 @@ pub mod FilingLemmas
 -- levels with no rows
 pub mod StartLemmas
 pub mod TriedLemmas
+-- how much is tried, told by the partial matches
+pub mod SumLemmas
+pub mod MatchLemmas
+pub mod WorkLemmas
 -- all rules
 pub mod AskerLemmas
 pub mod RuleLemmas
@@ -31,3 +35,4 @@ pub mod TakeLemmas
 pub mod PassedLemmas
 pub mod StopLemmas
 pub mod SetChangeLemmas
+pub mod DueWorkLemmas

@@ -73,7 +73,7 @@ kept_step : (same : Bool) (last place : ℕ) (goes kept : Bool) → (last == pla
 kept_step true last place goes kept is agree = ap (λ b. (last == place) && b) (agree (eqb-true last place is))
 kept_step false last place goes kept is agree = ap (λ b. b && goes) is ∙ sym (ap (λ b. b && kept) is)
 
-kept-times : (joins : Joins) (came : List Element) (places row : List ℕ) (last : ℕ) (other : List ℕ) → same_numbers row other ≡ true → times (λ p. last == p) (filter (extends joins came other) places) ≡ cond (extends joins came row last) (times (λ p. last == p) places) 0
+pub kept-times : (joins : Joins) (came : List Element) (places row : List ℕ) (last : ℕ) (other : List ℕ) → same_numbers row other ≡ true → times (λ p. last == p) (filter (extends joins came other) places) ≡ cond (extends joins came row last) (times (λ p. last == p) places) 0
 kept-times joins came places row last other same =
     times-filter (λ p. last == p) (extends joins came other) places
     ∙ times-agree (λ p. (last == p) && extends joins came other p) (λ p. (last == p) && extends joins came row last)

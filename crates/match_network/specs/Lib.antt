@@ -21,3 +21,5 @@ pub mod Tried
 -- all rules
 pub mod Rules
 pub mod Network
+-- how much work one element makes
+pub mod JoinWork

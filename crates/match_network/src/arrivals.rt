@@ -1,7 +1,7 @@
 //! The elements that ever came, each at a place of its own, and which of them are in working memory. It
 //! knows no rules.
 
-ghost use Rattle.std.specs.Prelude.{◌≡◌, ℕ, ◌+◌, ◌<◌, ◌≤◌, ◌^◌, false, true, IfOk, MatchOption, OnErr, OnOk, Some, length, slice_get, []};
+ghost use Rattle.std.specs.Prelude.{◌≡◌, ℕ, ◌+◌, ◌<◌, ◌≤◌, ◌^◌, ◌==◌, false, true, IfOk, MatchOption, OnErr, OnOk, Some, filter, length, not, slice_get, [], ◌∷◌, ◌++◌};
 ghost use Rattle.std.specs.List.{AllByRecursion, list_any};
 ghost use Rattle.rule_base.specs.declared.element.Element.{Element};
 ghost use Rattle.rule_base.specs.Memory.{Rises, tags_of};
@@ -14,8 +14,8 @@ use hash_buckets::Living;
 use ops_text::OutOfMemory;
 use rule_base::{ElementView, Elements, Steps};
 use std::alloc::Global;
-use std::marker::Model;
-use std::sync::ledger::Ledger;
+use std::marker::{Brand, Model};
+use std::sync::ledger::{Blank, Ledger};
 use working_memory::Memory;
 
 /// The elements that came, and the places of those in working memory. A place is never used again.
@@ -49,11 +49,7 @@ impl Arrivals {
 
     /// Takes in an element, and gives it the next place. On average it takes a constant time for each of
     /// its values. It also fails where 2^32 - 1 elements came. After want of memory all is as before.
-    pub fn insert<L: Ledger>(
-        &mut self,
-        element: ElementView<'_>,
-        steps: &mut Steps<L>,
-    ) -> Result<u32, OutOfMemory>
+    pub fn insert(&mut self, element: ElementView<'_>) -> Result<u32, OutOfMemory>
         requires { AllByRecursion (λ (e : Element). e.tag < element.tag) self.old.came }
         ensures place { IfOk result (λ place. place ≡ length self.old.came) }
         ensures ok { OnOk result (self.new ≡ with_arrival self.old (element_in element.entry)) }
@@ -61,7 +57,6 @@ impl Arrivals {
         ensures tags { Rises (tags_of self.new.came) }
         ensures rising { Rises self.new.places × AllByRecursion (λ p. p < length self.new.came) self.new.places }
         ensures below { AllByRecursion (λ p. p < length self.old.came) self.old.places }
-        ensures steps { steps.new ≤ steps.old + 2 }
     {
         let place = self.elements.len();
         if place >= u32::MAX as usize {
@@ -70,21 +65,20 @@ impl Arrivals {
         self.memory.reserve(1)?;
         self.elements.push(element)?;
         // From here on nothing fails.
-        self.memory.insert(steps);
+        put_in(&mut self.memory);
         Ok(place as u32)
     }
 
     /// Takes the element with this tag out of working memory, and tells its place, if it is there. It
     /// takes no memory, and a time that grows with the logarithm of the tags that are missing between the
     /// first one and this one.
-    pub fn remove<L: Ledger>(&mut self, tag: u64, steps: &mut Steps<L>) -> Option<u32>
+    pub fn remove(&mut self, tag: u64) -> Option<u32>
         ensures left { self.new ≡ without_tag self.old tag }
         ensures found { MatchOption result (list_any (has_tag self.old.came tag) self.old.places ≡ false)
             (λ place. (has_number self.old.places place ≡ true) × (has_tag self.old.came tag place ≡ true)) }
-        ensures steps { steps.new ≤ steps.old + 2 }
     {
         let place = place_of(&self.elements, tag)?;
-        if !self.memory.remove(place, steps) {
+        if !take_out(&mut self.memory, place) {
             return None;
         }
         Some(place as u32)
@@ -132,6 +126,50 @@ impl Living for Arrivals {
     fn is_living(&self, number: u32) -> bool {
         self.has(number)
     }
+}
+
+/// Takes the next place in. Nobody counts the steps.
+fn put_in(memory: &mut Memory)
+    requires { 0 < memory.old.spare }
+    ensures places { memory.new.places ≡ memory.old.places ++ memory.old.came ∷ [] }
+    ensures came { memory.new.came ≡ memory.old.came + 1 }
+{
+    put_in_on::<Brand>(memory, Blank::new(1));
+}
+
+/// The same, on a ledger of its own.
+fn put_in_on<L: Ledger>(memory: &mut Memory, blank: Blank)
+    requires spare { 0 < memory.old.spare }
+    requires name { blank.name ≡ L.name }
+    requires parts { blank.parts ≡ L.parts }
+    requires one { blank.parts ≡ 1 }
+    ensures places { memory.new.places ≡ memory.old.places ++ memory.old.came ∷ [] }
+    ensures came { memory.new.came ≡ memory.old.came + 1 }
+{
+    let mut steps = Steps::<L>::new(blank);
+    memory.insert(&mut steps);
+}
+
+/// Takes a place out, and says whether it was there. Nobody counts the steps.
+fn take_out(memory: &mut Memory, place: usize) -> bool
+    ensures found { result ≡ has_number memory.old.places place }
+    ensures places { memory.new.places ≡ filter (λ p. not (p == place)) memory.old.places }
+    ensures came { memory.new.came ≡ memory.old.came }
+{
+    take_out_on::<Brand>(memory, place, Blank::new(1))
+}
+
+/// The same, on a ledger of its own.
+fn take_out_on<L: Ledger>(memory: &mut Memory, place: usize, blank: Blank) -> bool
+    requires name { blank.name ≡ L.name }
+    requires parts { blank.parts ≡ L.parts }
+    requires one { blank.parts ≡ 1 }
+    ensures found { result ≡ has_number memory.old.places place }
+    ensures places { memory.new.places ≡ filter (λ p. not (p == place)) memory.old.places }
+    ensures came { memory.new.came ≡ memory.old.came }
+{
+    let mut steps = Steps::<L>::new(blank);
+    memory.remove(place, &mut steps)
 }
 
 /// The place of the element with this tag, by halving. Where no tag is missing between the first one and

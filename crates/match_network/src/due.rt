@@ -1,11 +1,12 @@
 //! Weaving an element in at all condition elements that it passes.
 
-ghost use Rattle.std.specs.Prelude.{◌≡◌, ℕ, ◌<◌, ◌≤◌, [], OnErr, OnOk, Some, length, slice_get};
-ghost use Rattle.std.specs.List.{AllByRecursion};
+ghost use Rattle.std.specs.Prelude.{◌≡◌, ℕ, ◌+◌, ◌<◌, ◌≤◌, [], OnErr, OnOk, Some, length, slice_get};
+ghost use Rattle.std.specs.List.{AllByRecursion, sum_by};
 ghost use Rattle.rule_base.specs.Memory.{Rises};
 ghost use Rattle.match_network.specs.Conditions.{joins_of, rows_of};
 ghost use Rattle.match_network.specs.Rules.{AreStopped, AreWovenIn, IsDue, IsKept, IsStep, RuleRows, is_asker};
 ghost use Rattle.alpha_memory.specs.Times.{times};
+ghost use Rattle.match_network.specs.Tried.{due_tried};
 ghost use Rattle.match_network.specs.Woven.{woven};
 
 use crate::askers::Asker;
@@ -32,6 +33,9 @@ pub(crate) fn weave_all<L: Ledger>(
     requires start { AreWovenIn arrivals.now.came arrivals.now.places place alpha.old [] rules.old rules.old }
     ensures ok { OnOk result (AreWovenIn arrivals.now.came arrivals.now.places place alpha.new due.now rules.old rules.new) }
     ensures stopped { AreStopped arrivals.now.came arrivals.now.places place alpha.new rules.old rules.new }
+
+    // What is tried at each of them is told by the rules as they were before the first.
+    ensures steps { steps.new ≤ steps.old + sum_by (due_tried rules.old arrivals.now.came arrivals.now.places place) due.now }
 {
     for number in 0..due.len() {
         weave_at(due[number], place, arrivals, alpha, rules, steps)?;
@@ -55,6 +59,7 @@ fn weave_at<L: Ledger>(
     ensures ok { OnOk result ((before after : RuleRows) → slice_get rules.old asker.rule ≡ Some before → slice_get rules.new asker.rule ≡ Some after
         → (width : ℕ) → rows_of after.levels width
         ≡ woven (joins_of before.joins.positives) arrivals.now.came arrivals.now.places place asker.condition (rows_of before.levels) width) }
+    ensures steps { steps.new ≤ steps.old + due_tried rules.old arrivals.now.came arrivals.now.places place asker }
 {
     let rule = &mut rules[asker.rule];
     rule.weave(asker.condition, place, arrivals, alpha, steps)

@@ -6,6 +6,7 @@ ghost use Rattle.rule_base.specs.declared.element.Element.{Element};
 ghost use Rattle.rule_base.specs.Views.{element_in};
 ghost use Rattle.match_network.specs.Arrivals.{with_arrival, without_tag};
 ghost use Rattle.match_network.specs.Conditions.{joins_of, rows_of};
+ghost use Rattle.match_network.specs.JoinWork.{join_work_of};
 ghost use Rattle.match_network.specs.Levels.{AreLevels};
 ghost use Rattle.match_network.specs.Network.{joins_in};
 ghost use Rattle.match_network.specs.Rules.{AreCompiled};
@@ -64,24 +65,27 @@ impl Network {
         // After want of memory the element may have come, and be dead.
         ensures came { OnErr result ((self.new.arrivals.came ≡ self.old.arrivals.came)
             ⊎ (self.new.arrivals.came ≡ self.old.arrivals.came ++ element_in element.entry ∷ [])) }
+
+        // It counts no more steps than the partial matches give work, whatever dead rows are kept.
+        ensures steps { steps.new ≤ steps.old + join_work_of self.old.rules (self.old.arrivals.came ++ element_in element.entry ∷ [])
+            self.old.arrivals.places (length self.old.arrivals.came) }
     {
-        let place = self.arrivals.insert(element, steps)?;
+        let place = self.arrivals.insert(element)?;
         if let Err(want) = self.set.take_in(place, element, &self.arrivals, steps) {
-            self.arrivals.remove(element.tag, steps);
+            self.arrivals.remove(element.tag);
             return Err(want);
         }
         Ok(())
     }
 
     /// Takes the element with this tag out of working memory, if it is there. Its rows stay, as dead ones.
-    /// It takes no memory, and a time that grows with the logarithm of the tags that are missing between
-    /// the first one and this one.
-    pub fn remove<L: Ledger>(&mut self, tag: u64, steps: &mut Steps<L>)
+    /// It counts no steps and takes no memory, and a time that grows with the logarithm of the tags that are
+    /// missing between the first one and this one.
+    pub fn remove(&mut self, tag: u64)
         ensures arrivals { self.new.arrivals ≡ without_tag self.old.arrivals tag }
         ensures rules { self.new.rules ≡ self.old.rules }
-        ensures steps { steps.new ≤ steps.old + 2 }
     {
-        self.arrivals.remove(tag, steps);
+        self.arrivals.remove(tag);
     }
 
     /// How many rules there are.

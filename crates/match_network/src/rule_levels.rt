@@ -1,6 +1,6 @@
 //! What the network keeps of one rule.
 
-ghost use Rattle.std.specs.Prelude.{◌≡◌, ℕ, ◌<◌, [], IfOk, IfSome, None, OnErr, OnOk, Some, length, slice_get, true};
+ghost use Rattle.std.specs.Prelude.{◌≡◌, ℕ, ◌+◌, ◌<◌, ◌≤◌, [], IfOk, IfSome, None, OnErr, OnOk, Some, length, slice_get, true};
 ghost use Rattle.std.specs.List.{AllByRecursion, list_any};
 ghost use Rattle.join_tests.specs.declared.joins.Join.{Join};
 ghost use Rattle.join_tests.specs.Meaning.{IsCompiled};
@@ -8,6 +8,7 @@ ghost use Rattle.match_network.specs.Conditions.{AreCleaned, AreFiled, AreStores
 ghost use Rattle.match_network.specs.Filed.{passes_at};
 ghost use Rattle.match_network.specs.Levels.{OnlyAdds};
 ghost use Rattle.match_network.specs.Rules.{AreAsked, AreBare, GoesOn, IsRight, IsStopped, IsWoven};
+ghost use Rattle.match_network.specs.Tried.{rule_tried};
 ghost use Rattle.match_network.specs.Woven.{woven};
 
 use crate::{Arrivals, Conditions, Level, Rows, new_levels, weave};
@@ -100,6 +101,7 @@ impl RuleLevels {
         ensures adds { OnlyAdds arrivals.now.came place (rows_of self.old.levels) (rows_of self.new.levels) }
         ensures filed { AreFiled self.old.joins.positives arrivals.now.came arrivals.now.places self.new.levels }
         ensures cleaned { AreCleaned arrivals.now.places alpha.old alpha.new }
+        ensures steps { steps.new ≤ steps.old + rule_tried self.old arrivals.now.came arrivals.now.places place at }
     {
         let conditions = Conditions {
             joins: self.joins.positives.as_slice(),

@@ -1,9 +1,10 @@
 //! All rules, and the stores that they share.
 
-ghost use Rattle.std.specs.Prelude.{◌≡◌, [], ◌∷◌, ◌++◌, IfOk, OnErr, OnOk, filter, map};
+ghost use Rattle.std.specs.Prelude.{◌≡◌, ◌+◌, ◌≤◌, [], ◌∷◌, ◌++◌, IfOk, OnErr, OnOk, filter, map};
 ghost use Rattle.join_tests.specs.Meaning.{IsCompiled};
 ghost use Rattle.rule_base.specs.Views.{element_in};
 ghost use Rattle.alpha_memory.specs.Stores.{AreFiledOrNot, filed};
+ghost use Rattle.match_network.specs.JoinWork.{join_work_of};
 ghost use Rattle.match_network.specs.Network.{IsBefore, IsNetwork, joins_in, other_than};
 ghost use Rattle.match_network.specs.Rules.{AreAllDue, AreBare, AreCompiled, IsAdded};
 
@@ -74,6 +75,7 @@ impl RuleSet {
         ensures ok { OnOk result (IsNetwork arrivals.now.came arrivals.now.places self.new.alpha self.new.rules.items self.new.askers.items) }
         ensures err { OnErr result (IsNetwork arrivals.now.came (filter (other_than place) arrivals.now.places) self.new.alpha self.new.rules.items self.new.askers.items) }
         ensures joins { joins_in self.new.rules.items ≡ joins_in self.old.rules.items }
+        ensures steps { steps.new ≤ steps.old + join_work_of self.old.rules.items arrivals.now.came (filter (other_than place) arrivals.now.places) place }
     {
         self.find_due(place, element)?;
         weave_all(

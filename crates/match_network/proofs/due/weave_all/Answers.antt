@@ -1,11 +1,14 @@
 -- One condition element more.
 use Rattle.std.proofs.Common.{◌<◌, List, arith, get_or, length, subst, sym, take}
 use Rattle.std.proofs.lemmas.List.{get_or_default, take_more}
+use Rattle.std.proofs.lemmas.List.Sums.{sum_by-take-le, sum_by_more, sum_by_more_le}
 use Rattle.rule_base.proofs.EachLemmas.{Each-slice_get}
 use Rattle.match_network.specs.declared.askers.Asker.{Asker}
 use Rattle.match_network.specs.Rules.{AreWovenIn, IsDue}
+use Rattle.match_network.specs.Tried.{due_tried}
 use Rattle.match_network.proofs.ComeLemmas.{slice_get-here, some_at}
 use Rattle.match_network.proofs.DueLemmas.{due_now, kept_now, not_before, stopped_at, woven_more}
+use Rattle.match_network.proofs.DueWorkLemmas.{due_same}
 use Rattle.match_network.proofs.GivenLemmas.{within-is}
 use Rattle.match_network.proofs.due.weave_all.Goals as goal
 
@@ -20,9 +23,9 @@ weave_at-requires-clause-due g c =
     let asker = get_or due l.number none in
     let lt : l.number < length due = omega (arith, c.loop-number-test.true) in
     let at = Each-slice_get (IsDue a.came c.args.place c.args.rules.now) due l.number asker c.requires.due (slice_get-here due l.number asker lt (get_or_default due l.number none asker lt)) in
-    let within : asker.rule < length l.rules = omega (arith, within-is c.args.rules.now asker.rule at.rule at.rule_is, l.invariant.count) in
+    let within : asker.rule < length l.rules = omega (arith, within-is c.args.rules.now asker.rule at.rule at.rule_is, l.invariant.woven.count) in
     let this = some_at l.rules asker.rule within in
-    due_now a.came a.places c.args.place l.alpha (take l.number due) asker c.args.rules.now l.rules l.invariant at this.item this.is
+    due_now a.came a.places c.args.place l.alpha (take l.number due) asker c.args.rules.now l.rules l.invariant.woven at this.item this.is
 
 pub weave_at-requires-clause-kept : goal.weave_at-requires-clause-kept
 weave_at-requires-clause-kept g c rule there =
@@ -32,13 +35,13 @@ weave_at-requires-clause-kept g c rule there =
     let asker = get_or due l.number none in
     let lt : l.number < length due = omega (arith, c.loop-number-test.true) in
     let at = Each-slice_get (IsDue a.came c.args.place c.args.rules.now) due l.number asker c.requires.due (slice_get-here due l.number asker lt (get_or_default due l.number none asker lt)) in
-    kept_now a.came a.places c.args.place l.alpha (take l.number due) asker c.args.rules.now l.rules l.invariant at rule there
+    kept_now a.came a.places c.args.place l.alpha (take l.number due) asker c.args.rules.now l.rules l.invariant.woven at rule there
 
 pub returns-in_err-weave_at-clause-stopped : goal.returns-in_err-weave_at-clause-stopped
 returns-in_err-weave_at-clause-stopped g c =
     let a = c.args.arrivals.now in
     let l = c.loop-number in
-    stopped_at a.came a.places c.args.place l.alpha c.weave_at.new.alpha (take l.number c.args.due.now) (get_or c.args.due.now l.number none).rule c.args.rules.now l.rules c.weave_at.new.rules c.in_err-weave_at.ensures.step l.invariant
+    stopped_at a.came a.places c.args.place l.alpha c.weave_at.new.alpha (take l.number c.args.due.now) (get_or c.args.due.now l.number none).rule c.args.rules.now l.rules c.weave_at.new.rules c.in_err-weave_at.ensures.step l.invariant.woven
 
 pub loop-number-preserved : goal.loop-number-preserved
 loop-number-preserved g c =
@@ -48,6 +51,38 @@ loop-number-preserved g c =
     let asker = get_or due l.number none in
     let lt : l.number < length due = omega (arith, c.loop-number-test.true) in
     let fresh = not_before due l.number asker lt (get_or_default due l.number none asker lt) (c.requires.once asker.rule asker.condition) in
-    subst (λ (done : List Asker). AreWovenIn a.came a.places c.args.place c.weave_at.new.alpha done c.args.rules.now c.weave_at.new.rules) (sym (take_more due l.number none lt))
-    (woven_more a.came a.places c.args.place l.alpha c.weave_at.new.alpha (take l.number due) asker c.args.rules.now l.rules c.weave_at.new.rules
-    c.requires.rising c.requires.below c.requires.place fresh c.in_ok-weave_at.ensures.step c.in_ok-weave_at.ensures.ok l.invariant)
+    let at = Each-slice_get (IsDue a.came c.args.place c.args.rules.now) due l.number asker c.requires.due (slice_get-here due l.number asker lt (get_or_default due l.number none asker lt)) in
+    record {
+      woven = subst (λ (done : List Asker). AreWovenIn a.came a.places c.args.place c.weave_at.new.alpha done c.args.rules.now c.weave_at.new.rules) (sym (take_more due l.number none lt))
+          (woven_more a.came a.places c.args.place l.alpha c.weave_at.new.alpha (take l.number due) asker c.args.rules.now l.rules c.weave_at.new.rules
+          c.requires.rising c.requires.below c.requires.place fresh c.in_ok-weave_at.ensures.step c.in_ok-weave_at.ensures.ok l.invariant.woven);
+      steps = omega (
+        arith,
+        l.invariant.steps,
+        c.in_ok-weave_at.ensures.steps,
+        due_same a.came a.places c.args.place l.alpha (take l.number due) asker c.args.rules.now l.rules l.invariant.woven at,
+        sum_by_more (due_tried c.args.rules.now a.came a.places c.args.place) due l.number none lt,
+      );
+    }
+
+pub returns-in_err-weave_at-clause-steps : goal.returns-in_err-weave_at-clause-steps
+returns-in_err-weave_at-clause-steps g c =
+    let a = c.args.arrivals.now in
+    let l = c.loop-number in
+    let due = c.args.due.now in
+    let asker = get_or due l.number none in
+    let lt : l.number < length due = omega (arith, c.loop-number-test.true) in
+    let at = Each-slice_get (IsDue a.came c.args.place c.args.rules.now) due l.number asker c.requires.due (slice_get-here due l.number asker lt (get_or_default due l.number none asker lt)) in
+    omega (
+      arith,
+      l.invariant.steps,
+      c.in_err-weave_at.ensures.steps,
+      due_same a.came a.places c.args.place l.alpha (take l.number due) asker c.args.rules.now l.rules l.invariant.woven at,
+      sum_by_more_le (due_tried c.args.rules.now a.came a.places c.args.place) due l.number none lt,
+    )
+
+pub returns-clause-steps : goal.returns-clause-steps
+returns-clause-steps g c =
+    let a = c.args.arrivals.now in
+    let l = c.loop-number in
+    omega (arith, l.invariant.steps, sum_by-take-le (due_tried c.args.rules.now a.came a.places c.args.place) c.args.due.now l.number)

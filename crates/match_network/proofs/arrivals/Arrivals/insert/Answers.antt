@@ -12,30 +12,30 @@ invariant_of-self-2 g c =
     let inside = c.self.inside in
     let kept = c.reserve.ensures in
     let above = subst (λ (a : Arrivals). AllByRecursion (λ (e : Element). e.tag < c.args.element.tag) a.came) (sym c.self.view_is) c.requires in
-    one_more_arrived inside.elements c.push.new.self inside.memory.places c.insert.new.self.places inside.memory.came (element_in c.args.element) c.insert.new.self.came
+    one_more_arrived inside.elements c.push.new.self inside.memory.places c.put_in.new.memory.places inside.memory.came (element_in c.args.element) c.put_in.new.memory.came
     c.self.invariant (omega (arith, c.len-place.ensures, c.if-place.false)) above c.in_ok-push.ensures.ok
-    (c.insert.ensures.places ∙ ap (λ ps. ps ++ c.reserve.new.self.came ∷ []) kept.places ∙ ap (λ n. inside.memory.places ++ n ∷ []) kept.came)
-    (c.insert.ensures.came ∙ ap (λ n. n + 1) kept.came)
+    (c.put_in.ensures.places ∙ ap (λ ps. ps ++ c.reserve.new.self.came ∷ []) kept.places ∙ ap (λ n. inside.memory.places ++ n ∷ []) kept.came)
+    (c.put_in.ensures.came ∙ ap (λ n. n + 1) kept.came)
 
 pub returns-clause-tags : goal.returns-clause-tags
 returns-clause-tags g c =
     let inside = c.self.inside in
     let kept = c.reserve.ensures in
     let above = subst (λ (a : Arrivals). AllByRecursion (λ (e : Element). e.tag < c.args.element.tag) a.came) (sym c.self.view_is) c.requires in
-    (one_more_arrived inside.elements c.push.new.self inside.memory.places c.insert.new.self.places inside.memory.came (element_in c.args.element) c.insert.new.self.came
+    (one_more_arrived inside.elements c.push.new.self inside.memory.places c.put_in.new.memory.places inside.memory.came (element_in c.args.element) c.put_in.new.memory.came
     c.self.invariant (omega (arith, c.len-place.ensures, c.if-place.false)) above c.in_ok-push.ensures.ok
-    (c.insert.ensures.places ∙ ap (λ ps. ps ++ c.reserve.new.self.came ∷ []) kept.places ∙ ap (λ n. inside.memory.places ++ n ∷ []) kept.came)
-    (c.insert.ensures.came ∙ ap (λ n. n + 1) kept.came)).tags
+    (c.put_in.ensures.places ∙ ap (λ ps. ps ++ c.reserve.new.self.came ∷ []) kept.places ∙ ap (λ n. inside.memory.places ++ n ∷ []) kept.came)
+    (c.put_in.ensures.came ∙ ap (λ n. n + 1) kept.came)).tags
 
 pub returns-clause-rising : goal.returns-clause-rising
 returns-clause-rising g c =
     let inside = c.self.inside in
     let kept = c.reserve.ensures in
     let above = subst (λ (a : Arrivals). AllByRecursion (λ (e : Element). e.tag < c.args.element.tag) a.came) (sym c.self.view_is) c.requires in
-    let arrived = one_more_arrived inside.elements c.push.new.self inside.memory.places c.insert.new.self.places inside.memory.came (element_in c.args.element) c.insert.new.self.came
+    let arrived = one_more_arrived inside.elements c.push.new.self inside.memory.places c.put_in.new.memory.places inside.memory.came (element_in c.args.element) c.put_in.new.memory.came
     c.self.invariant (omega (arith, c.len-place.ensures, c.if-place.false)) above c.in_ok-push.ensures.ok
-    (c.insert.ensures.places ∙ ap (λ ps. ps ++ c.reserve.new.self.came ∷ []) kept.places ∙ ap (λ n. inside.memory.places ++ n ∷ []) kept.came)
-    (c.insert.ensures.came ∙ ap (λ n. n + 1) kept.came) in
+    (c.put_in.ensures.places ∙ ap (λ ps. ps ++ c.reserve.new.self.came ∷ []) kept.places ∙ ap (λ n. inside.memory.places ++ n ∷ []) kept.came)
+    (c.put_in.ensures.came ∙ ap (λ n. n + 1) kept.came) in
     (arrived.rising, arrived.below)
 
 pub returns-clause-below : goal.returns-clause-below

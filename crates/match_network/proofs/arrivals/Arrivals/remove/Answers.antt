@@ -23,19 +23,19 @@ returns-in_err-place-clause-found g c =
 pub invariant_of-self : goal.invariant_of-self
 invariant_of-self g c =
     let inside = c.self.inside in
-    still_arrived inside.elements inside.memory.places c.remove.new.self.places inside.memory.came c.in_ok-place.place c.remove.new.self.came c.self.invariant c.remove.ensures.places c.remove.ensures.came
+    still_arrived inside.elements inside.memory.places c.take_out.new.memory.places inside.memory.came c.in_ok-place.place c.take_out.new.memory.came c.self.invariant c.take_out.ensures.places c.take_out.ensures.came
 
-pub returns-then-not-remove-clause-left : goal.returns-then-not-remove-clause-left
-returns-then-not-remove-clause-left g c =
+pub returns-then-not-take_out-clause-left : goal.returns-then-not-take_out-clause-left
+returns-then-not-take_out-clause-left g c =
     let inside = c.self.inside in
-    subst (λ (a : Arrivals). the_arrivals inside.elements c.remove.new.self.places ≡ without_tag a c.args.tag) c.self.view_is
-    (left_places inside.elements c.args.tag c.in_ok-place.place inside.memory.places c.remove.new.self.places c.self.invariant.tags c.in_ok-place.ensures c.remove.ensures.places)
+    subst (λ (a : Arrivals). the_arrivals inside.elements c.take_out.new.memory.places ≡ without_tag a c.args.tag) c.self.view_is
+    (left_places inside.elements c.args.tag c.in_ok-place.place inside.memory.places c.take_out.new.memory.places c.self.invariant.tags c.in_ok-place.ensures c.take_out.ensures.places)
 
-pub returns-then-not-remove-clause-found : goal.returns-then-not-remove-clause-found
-returns-then-not-remove-clause-found g c =
+pub returns-then-not-take_out-clause-found : goal.returns-then-not-take_out-clause-found
+returns-then-not-take_out-clause-found g c =
     let inside = c.self.inside in
     subst (λ (a : Arrivals). list_any (has_tag a.came c.args.tag) a.places ≡ false) c.self.view_is
-    (any_has_tag inside.elements c.args.tag c.in_ok-place.place inside.memory.places c.self.invariant.tags c.in_ok-place.ensures ∙ sym c.remove.ensures.found ∙ c.if-not-remove.true)
+    (any_has_tag inside.elements c.args.tag c.in_ok-place.place inside.memory.places c.self.invariant.tags c.in_ok-place.ensures ∙ sym c.take_out.ensures.found ∙ c.if-not-take_out.true)
 
 pub overflow_cast-result : goal.overflow_cast-result
 overflow_cast-result g c =
@@ -45,10 +45,10 @@ overflow_cast-result g c =
 pub invariant_of-self-2 : goal.invariant_of-self-2
 invariant_of-self-2 g c =
     let inside = c.self.inside in
-    still_arrived inside.elements inside.memory.places c.remove.new.self.places inside.memory.came c.in_ok-place.place c.remove.new.self.came c.self.invariant c.remove.ensures.places c.remove.ensures.came
+    still_arrived inside.elements inside.memory.places c.take_out.new.memory.places inside.memory.came c.in_ok-place.place c.take_out.new.memory.came c.self.invariant c.take_out.ensures.places c.take_out.ensures.came
 
 pub returns-clause-left : goal.returns-clause-left
 returns-clause-left g c =
     let inside = c.self.inside in
-    subst (λ (a : Arrivals). the_arrivals inside.elements c.remove.new.self.places ≡ without_tag a c.args.tag) c.self.view_is
-    (left_places inside.elements c.args.tag c.in_ok-place.place inside.memory.places c.remove.new.self.places c.self.invariant.tags c.in_ok-place.ensures c.remove.ensures.places)
+    subst (λ (a : Arrivals). the_arrivals inside.elements c.take_out.new.memory.places ≡ without_tag a c.args.tag) c.self.view_is
+    (left_places inside.elements c.args.tag c.in_ok-place.place inside.memory.places c.take_out.new.memory.places c.self.invariant.tags c.in_ok-place.ensures c.take_out.ensures.places)

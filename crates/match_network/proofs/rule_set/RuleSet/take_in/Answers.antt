@@ -1,12 +1,14 @@
 -- The rules go on from those before the element to those with it.
-use Rattle.std.proofs.Common.{◌≡◌, ◌≤◌, ◌++◌, [], List, ap, arith, drop, filter, length, rules, subst, sym, take, ◌∙◌}
-use Rattle.std.specs.List.{AllByRecursion}
+use Rattle.std.proofs.Common.{◌≡◌, ◌+◌, ◌≤◌, ◌++◌, [], List, ap, arith, drop, filter, length, rules, subst, sym, take, ◌∙◌}
+use Rattle.std.specs.List.{AllByRecursion, sum_by}
 use Rattle.std.specs.Result.{OnErr, OnOk}
 use Rattle.rule_base.specs.Views.{element_in}
 use Rattle.alpha_memory.specs.Times.{times}
 use Rattle.match_network.specs.declared.askers.Asker.{Asker}
 use Rattle.match_network.specs.Network.{IsNetwork, joins_in, other_than}
 use Rattle.match_network.specs.Rules.{AreStopped, AreWovenIn, IsDue, RuleRows, is_asker}
+use Rattle.match_network.specs.Tried.{due_tried}
+use Rattle.match_network.proofs.DueWorkLemmas.{set_work}
 use Rattle.match_network.proofs.GivenLemmas.{on_ok}
 use Rattle.match_network.proofs.RuleLemmas.{front_again}
 use Rattle.match_network.proofs.SetChangeLemmas.{always_err, set_begins, set_due, set_ends, set_left, set_once, set_stopped, stopped_joins}
@@ -100,3 +102,13 @@ returns-clause-joins g c =
     ap joins_in written
     ∙ stopped_joins a.came a.places c.args.place more set.rules.items after
     (subst (λ (rs : List RuleRows). AreStopped a.came a.places c.args.place more rs after) (c.as_mut_slice.ensures.value ∙ rules_is) c.weave_all.ensures.stopped)
+
+pub returns-clause-steps : goal.returns-clause-steps
+returns-clause-steps g c =
+    let a = c.args.arrivals.now in
+    let set = c.args.self.now in
+    let new = c.find_due.new.self in
+    let rules_is : new.rules.items ≡ set.rules.items = search rules in
+    let tried = subst (λ (rs : List RuleRows). c.weave_all.new.steps ≤ c.args.steps.now + sum_by (due_tried rs a.came a.places c.args.place) new.due.items) (c.as_mut_slice.ensures.value ∙ rules_is)
+    (subst (λ (ds : List Asker). c.weave_all.new.steps ≤ c.args.steps.now + sum_by (due_tried c.as_mut_slice.result.now a.came a.places c.args.place) ds) c.as_slice.ensures.value c.weave_all.ensures.steps) in
+    omega (arith, tried, set_work a (element_in c.args.element) c.args.place set.alpha set.rules.items set.askers.items new.due.items c.requires c.in_ok-find_due.ensures.due)
