@@ -8,7 +8,7 @@ use Rattle.match_network.proofs.TagLemmas.{one_more_arrived}
 use Rattle.match_network.proofs.arrivals.Arrivals.insert.Goals as goal
 
 pub invariant_of-self-2 : goal.invariant_of-self-2
-invariant_of-self-2 g c =
+invariant_of-self-2 c =
     let inside = c.self.inside in
     let kept = c.reserve.ensures in
     let above = subst (λ (a : Arrivals). AllByRecursion (λ (e : Element). e.tag < c.args.element.tag) a.came) (sym c.self.view_is) c.requires in
@@ -18,7 +18,7 @@ invariant_of-self-2 g c =
     (c.put_in.ensures.came ∙ ap (λ n. n + 1) kept.came)
 
 pub returns-clause-tags : goal.returns-clause-tags
-returns-clause-tags g c =
+returns-clause-tags c =
     let inside = c.self.inside in
     let kept = c.reserve.ensures in
     let above = subst (λ (a : Arrivals). AllByRecursion (λ (e : Element). e.tag < c.args.element.tag) a.came) (sym c.self.view_is) c.requires in
@@ -28,7 +28,7 @@ returns-clause-tags g c =
     (c.put_in.ensures.came ∙ ap (λ n. n + 1) kept.came)).tags
 
 pub returns-clause-rising : goal.returns-clause-rising
-returns-clause-rising g c =
+returns-clause-rising c =
     let inside = c.self.inside in
     let kept = c.reserve.ensures in
     let above = subst (λ (a : Arrivals). AllByRecursion (λ (e : Element). e.tag < c.args.element.tag) a.came) (sym c.self.view_is) c.requires in
@@ -39,4 +39,4 @@ returns-clause-rising g c =
     (arrived.rising, arrived.below)
 
 pub returns-clause-below : goal.returns-clause-below
-returns-clause-below g c = subst (λ (a : Arrivals). AllByRecursion (λ p. p < length a.came) a.places) c.self.view_is c.self.invariant.below
+returns-clause-below c = subst (λ (a : Arrivals). AllByRecursion (λ p. p < length a.came) a.places) c.self.view_is c.self.invariant.below
