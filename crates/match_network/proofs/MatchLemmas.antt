@@ -2,7 +2,6 @@
 use Rattle.std.proofs.Common.{◌≡◌, ℕ, ◌+◌, ◌-◌, ◌<◌, ◌≤◌, ◌==◌, List, [], ◌∷◌, ◌++◌, Bool, true, false, not, cond, ◌&&◌, ◌||◌, length, map, zero, suc, refl, ap, subst, sym, ◌∙◌, arith, length-append, inl, inr}
 use Rattle.std.specs.List.{AllByRecursion, filter, flat_map}
 use Rattle.std.proofs.lemmas.Bool.{and_parts, cases_eq, eq-eqb, eqb-true}
-use Rattle.std.proofs.lemmas.Bool.Decides.{nat_tests}
 use Rattle.std.proofs.lemmas.List.Concat.{flat_map-cons}
 use Rattle.rule_base.specs.declared.element.Element.{Element}
 use Rattle.rule_base.specs.Numbers.{has_number, same_numbers}
@@ -10,7 +9,7 @@ use Rattle.rule_base.proofs.EachLemmas.{Each-weaker}
 use Rattle.alpha_memory.specs.Times.{times}
 use Rattle.alpha_memory.proofs.TimesLemmas.{times-agree, times-and, times-append, times-filter, times-map, times-none}
 use Rattle.match_network.specs.JoinWork.{partial_matches}
-use Rattle.match_network.specs.Levels.{AreWoven, is_done}
+use Rattle.match_network.specs.Levels.{AreWoven}
 use Rattle.match_network.specs.Row.{Joins, extends, is_living, is_match}
 use Rattle.match_network.specs.Woven.{Levels, grown, joined, made, offered, with_place}
 use Rattle.match_network.proofs.RowLemmas.{has_number-push, is_living-push, is_match-push, last_of, same_numbers-push, same_row, same_self}

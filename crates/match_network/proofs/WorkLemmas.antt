@@ -1,12 +1,12 @@
 -- What is tried for a rule where an element comes is no more than its partial matches give work.
-use Rattle.std.proofs.Common.{◌≡◌, ℕ, ◌+◌, ◌-◌, ◌<◌, ◌≤◌, ◌==◌, List, [], ◌∷◌, ◌++◌, Bool, true, false, not, cond, ◌&&◌, ◌||◌, length, map, reverse, zero, suc, refl, ap, subst, sym, ◌∙◌, arith, inl, inr, Option, None, Some, slice_get}
-use Rattle.std.specs.List.{AllByRecursion, enumerate_from, filter, sum_by}
+use Rattle.std.proofs.Common.{◌≡◌, ℕ, ◌+◌, ◌-◌, ◌<◌, ◌≤◌, List, [], ◌∷◌, ◌++◌, Bool, true, false, not, cond, ◌&&◌, ◌||◌, length, map, reverse, zero, suc, refl, ap, subst, sym, ◌∙◌, arith, inl, inr, Option, None, Some, slice_get}
+use Rattle.std.specs.List.{AllByRecursion, enumerate_from, filter}
 use Rattle.std.specs.Option.{option_map_or}
 use Rattle.std.proofs.lemmas.Bool.{cases_lt, eq-eqb}
 use Rattle.std.proofs.lemmas.List.{append-nil}
 use Rattle.std.proofs.lemmas.List.Elements.{filter-append}
 use Rattle.rule_base.specs.declared.element.Element.{Element}
-use Rattle.rule_base.specs.Numbers.{has_number, same_numbers}
+use Rattle.rule_base.specs.Numbers.{has_number}
 use Rattle.rule_base.proofs.EachLemmas.{Each-weaker}
 use Rattle.join_tests.specs.declared.joins.Join.{Join}
 use Rattle.alpha_memory.specs.Times.{times}
@@ -18,7 +18,6 @@ use Rattle.match_network.specs.Levels.{AreWoven}
 use Rattle.match_network.specs.Row.{Joins, extends, is_living}
 use Rattle.match_network.specs.Tried.{at_number, has_key, pairs_tried, places_tried, rows_tried, tries, woven_tried}
 use Rattle.match_network.specs.Woven.{Levels, grown, joined, made, with_place}
-use Rattle.match_network.proofs.ComeLemmas.{slice_get-past}
 use Rattle.match_network.proofs.GivenLemmas.{rows_widths}
 use Rattle.match_network.proofs.LevelLemmas.{lived_before}
 use Rattle.match_network.proofs.MatchLemmas.{is_other, level_below, made_below, match_among}
