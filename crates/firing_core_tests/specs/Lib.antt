@@ -1,3 +1,0 @@
--- what the tests' own fixtures keep
-pub mod Bases
-pub mod Desk
