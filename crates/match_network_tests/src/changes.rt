@@ -5,14 +5,13 @@ ghost use Rattle.std.specs.List.{AllByRecursion};
 ghost use Rattle.rule_base.specs.declared.element.Element.{Element};
 
 use match_network::{Arrivals, Network};
+use ops_text::OutOfMemory;
 use rule_base::{ElementView, Steps, Value};
-use std::alloc::Global;
 use std::marker::Brand;
 use std::sync::ledger::{Blank, Ledger};
-use std::test::Fail;
 
-/// Takes in an element with the next tag, and answers that tag.
-pub fn add(network: &mut Network, class: u32, values: &[Value]) -> Result<u64, Fail> {
+/// Takes in an element with the next tag, and answers that tag. It also fails where no tags are left.
+pub fn add(network: &mut Network, class: u32, values: &[Value]) -> Result<u64, OutOfMemory> {
     add_on::<Brand>(network, class, values, Blank::new(1))
 }
 
@@ -22,13 +21,13 @@ fn add_on<L: Ledger>(
     class: u32,
     values: &[Value],
     blank: Blank,
-) -> Result<u64, Fail>
+) -> Result<u64, OutOfMemory>
     requires name { blank.name ≡ L.name }
     requires parts { blank.parts ≡ L.parts }
     requires one { blank.parts ≡ 1 }
 {
     let Some(tag) = next_tag(network.arrivals()) else {
-        return Err(Fail::new("no tags are left"));
+        return Err(OutOfMemory);
     };
     let mut steps = Steps::<L>::new(blank);
     let element = ElementView { tag, class, values };
@@ -44,11 +43,20 @@ fn next_tag(arrivals: &Arrivals) -> Option<u64>
     if len == 0 {
         return Some(1);
     }
-    arrivals.at(len as u32 - 1).tag.checked_add(1)
+    let last = arrivals.at(len as u32 - 1);
+    if last.tag == u64::MAX {
+        return None;
+    }
+    Some(last.tag + 1)
 }
 
 /// Takes in elements of a class that have these numbers as their only values.
-pub fn add_many(network: &mut Network, class: u32, first: i64, last: i64) -> Result<(), Fail> {
+pub fn add_many(
+    network: &mut Network,
+    class: u32,
+    first: i64,
+    last: i64,
+) -> Result<(), OutOfMemory> {
     for number in first..=last {
         add(network, class, &[Value::Int(number)])?;
     }

@@ -31,11 +31,7 @@ pub fn full_matches(
 }
 
 /// The lists of tags of the rows whose elements are in working memory, in rising order.
-fn living(
-    alloc: Global,
-    rows: &Rows,
-    arrivals: &Arrivals,
-) -> Result<Vec<Vec<u64>>, OutOfMemory> {
+fn living(alloc: Global, rows: &Rows, arrivals: &Arrivals) -> Result<Vec<Vec<u64>>, OutOfMemory> {
     let mut lists = Vec::new(alloc);
     for number in 0..rows.len() {
         let row = rows.at(number);

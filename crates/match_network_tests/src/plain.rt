@@ -28,11 +28,7 @@ pub fn plain_matches(
 }
 
 /// All lists of places in working memory, one place for each positive condition element.
-fn all_rows(
-    alloc: Global,
-    rule: &Rule,
-    arrivals: &Arrivals,
-) -> Result<Vec<Vec<u32>>, OutOfMemory> {
+fn all_rows(alloc: Global, rule: &Rule, arrivals: &Arrivals) -> Result<Vec<Vec<u32>>, OutOfMemory> {
     let mut rows = Vec::new(alloc);
     rows.push(Vec::new(alloc))?;
     for cond in rule.conds.as_slice() {
