@@ -2,8 +2,6 @@
 //! elements are tested one after another, from the first test to the last. It knows nothing of a network
 //! but which elements there are.
 
-ghost use Rattle.std.specs.Prelude.{◌<◌, length};
-
 use crate::matches::{element_at, tags_at};
 use element_tests::{Binds, holds};
 use match_network::Arrivals;
