@@ -21,3 +21,5 @@ pub mod Tried
 -- all rules
 pub mod Rules
 pub mod Network
+-- the full matches of a rule
+pub mod Full

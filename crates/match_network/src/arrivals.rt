@@ -1,7 +1,7 @@
 //! The elements that ever came, each at a place of its own, and which of them are in working memory. It
 //! knows no rules.
 
-ghost use Rattle.std.specs.Prelude.{◌≡◌, ℕ, ◌+◌, ◌<◌, ◌≤◌, ◌^◌, false, true, IfOk, MatchOption, OnErr, OnOk, Some, length, slice_get, []};
+ghost use Rattle.std.specs.Prelude.{◌≡◌, ℕ, ◌+◌, ◌<◌, ◌≤◌, ◌^◌, false, true, IfOk, MatchOption, OnErr, OnOk, Some, filter, length, slice_get, []};
 ghost use Rattle.std.specs.List.{AllByRecursion, list_any};
 ghost use Rattle.rule_base.specs.declared.element.Element.{Element};
 ghost use Rattle.rule_base.specs.Memory.{Rises, tags_of};
@@ -10,6 +10,7 @@ ghost use Rattle.rule_base.specs.Views.{element_in};
 ghost use Rattle.match_network.specs.Arrivals.{has_tag, with_arrival, without_tag};
 ghost use Rattle.match_network.specs.Row.{is_living};
 
+use crate::{FullRows, Rows};
 use hash_buckets::Living;
 use ops_text::OutOfMemory;
 use rule_base::{ElementView, Elements, Steps};
@@ -103,6 +104,16 @@ impl Arrivals {
         ensures { result ≡ is_living self.now.places row.now }
     {
         row.iter().all(|place| self.has(*place))
+    }
+
+    /// Those of these rows whose places are all in working memory.
+    pub(crate) fn living<'a>(&'a self, rows: &'a Rows) -> FullRows<'a>
+        ensures rows { result ≡ filter (is_living self.now.places) rows.now.rows }
+        ensures tags { Rises (tags_of self.now.came) }
+        ensures below { AllByRecursion (λ p. p < length self.now.came) self.now.places }
+    {
+        let _elements = &self.elements;
+        FullRows::new(rows, self)
     }
 
     /// The element that came at a place.
