@@ -1,5 +1,5 @@
 -- Rows for all positive condition elements, as lists of tags.
-use Rattle.std.proofs.Common.{◌≡◌, ◌⊎◌, ℕ, ◌+◌, ◌<◌, ◌≤◌, ◌==◌, ◌||◌, List, [], ◌∷◌, ◌++◌, Bool, true, false, cond, ◌&&◌, length, map, zero, suc, refl, ap, sym, ◌∙◌, arith, inl, inr, subst, Option, Some, None, slice_get, is_some, option_and_then, find, length-append}
+use Rattle.std.proofs.Common.{◌≡◌, ◌⊎◌, ℕ, ◌+◌, ◌<◌, ◌≤◌, ◌==◌, ◌||◌, List, [], ◌∷◌, ◌++◌, Bool, true, false, cond, ◌&&◌, drop, length, map, zero, suc, refl, ap, sym, ◌∙◌, arith, inl, inr, subst, Option, Some, None, slice_get, is_some, option_and_then, find, length-append}
 use Rattle.std.specs.List.{AllByRecursion, cons_option, filter, filter_map, list_all}
 use Rattle.std.specs.Option.{option_map_or}
 use Rattle.std.proofs.lemmas.Bool.{cases_eq, eqb-true, eq-eqb, ne_eqb, or_left, or_right}
@@ -10,7 +10,7 @@ use Rattle.rule_base.specs.declared.program.Rule.{Rule}
 use Rattle.rule_base.specs.ElementMatch.{bindings_with}
 use Rattle.rule_base.specs.Memory.{Rises, element_at, elements_at, tags_of}
 use Rattle.rule_base.specs.Numbers.{has_number, same_numbers}
-use Rattle.rule_base.proofs.EachLemmas.{Each-always, Each-weaker}
+use Rattle.rule_base.proofs.EachLemmas.{Each-always, Each-slice_get, Each-weaker}
 use Rattle.join_tests.specs.declared.joins.Join.{Join}
 use Rattle.join_tests.specs.declared.joins.Joins.{Joins}
 use Rattle.join_tests.specs.Joining.{are_joined, each_joins, joins}
@@ -18,16 +18,19 @@ use Rattle.join_tests.specs.Meaning.{IsCompiled}
 use Rattle.alpha_memory.specs.Stores.{Store}
 use Rattle.alpha_memory.specs.Times.{times}
 use Rattle.alpha_memory.proofs.TimesLemmas.{times-agree, times-filter, times-map, times-none}
-use Rattle.match_network.specs.Arrivals.{has_tag}
+use Rattle.match_network.specs.declared.askers.Asker.{Asker}
+use Rattle.match_network.specs.Arrivals.{Arrivals, has_tag}
 use Rattle.match_network.specs.Conditions.{AreFiled, joins_of, level_at, rows_of}
 use Rattle.match_network.specs.Filed.{LevelRows}
-use Rattle.match_network.specs.Full.{AreFullMatches, FullMatchesAreTold, tags_at, takes_tags}
+use Rattle.match_network.specs.Full.{AreFullMatches, FullMatchesAreTold, memory_of, tags_at, takes_tags}
 use Rattle.match_network.specs.Levels.{AreLevels, HaveCome}
+use Rattle.match_network.specs.Network.{IsNetwork, Network}
 use Rattle.match_network.specs.Row.{elements_of, extends, is_living, is_match, joins_after, some_passes}
 use Rattle.match_network.specs.Rules.{IsRight, RuleRows}
 use Rattle.match_network.specs.Woven.{Levels}
 use Rattle.match_network.proofs.ComeLemmas.{Each-has, HaveCome-living, some_at}
 use Rattle.match_network.proofs.RowLemmas.{same_row}
+use Rattle.match_network.proofs.SoFarLemmas.{filter-end, filter-from}
 use Rattle.match_network.proofs.TagLemmas.{has_tag_only}
 
 and_false : (b : Bool) → (b && false) ≡ false
@@ -105,23 +108,23 @@ not_there came places place false below is none = refl
 not_there came places place true below is none =
     let first = some_at came place (Each-has (λ p. p < length came) places place below is) in
     let wrong : None ≡ Some first.item = sym none ∙ first.is in
-    absurd (let no : ⊥ = cc in no)
+    absurd (let wrong : ⊥ = cc in wrong)
 
 tags_step : (came : List Element) (places : List ℕ) (tag : ℕ) (tags row : List ℕ) (found : Option Element) (lives : Bool) → (found ≡ None → lives ≡ false) → (same_numbers tags (tags_at came row) && is_living places row) ≡ has_tags came places tags row →
     (same_numbers (tag ∷ tags) (tags_of (cons_option found (elements_of came row))) && (lives && is_living places row)) ≡ ((lives && some_passes (λ (e : Element). e.tag == tag) found) && has_tags came places tags row)
-tags_step came places tag tags row None true dead rest = absurd (let wrong = dead refl in let no : ⊥ = cc in no)
+tags_step came places tag tags row None true dead rest = absurd (let contrary = dead refl in let wrong : ⊥ = cc in wrong)
 tags_step came places tag tags row None false dead rest = and_false (same_numbers (tag ∷ tags) (tags_at came row))
 tags_step came places tag tags row (Some e) false dead rest = and_false (same_numbers (tag ∷ tags) (e.tag ∷ tags_at came row))
 tags_step came places tag tags row (Some e) true dead rest = both (tag == e.tag) (e.tag == tag) (grind (arith, nat_tests)) (same_numbers tags (tags_at came row)) (is_living places row) (has_tags came places tags row) rest
   where
     both : (same turned : Bool) → same ≡ turned → (tags_same living has : Bool) → (tags_same && living) ≡ has → ((same && tags_same) && living) ≡ (turned && has)
     both true true is tags_same living has rest = rest
-    both true false is tags_same living has rest = absurd (let no : ⊥ = cc in no)
-    both false true is tags_same living has rest = absurd (let no : ⊥ = cc in no)
+    both true false is tags_same living has rest = absurd (let wrong : ⊥ = cc in wrong)
+    both false true is tags_same living has rest = absurd (let wrong : ⊥ = cc in wrong)
     both false false is tags_same living has rest = refl
 
 none_step : (came : List Element) (places row : List ℕ) (found : Option Element) (lives : Bool) → (found ≡ None → lives ≡ false) → (same_numbers [] (tags_of (cons_option found (elements_of came row))) && (lives && is_living places row)) ≡ false
-none_step came places row None true dead = absurd (let wrong = dead refl in let no : ⊥ = cc in no)
+none_step came places row None true dead = absurd (let contrary = dead refl in let wrong : ⊥ = cc in wrong)
 none_step came places row None false dead = and_false (same_numbers [] (tags_at came row))
 none_step came places row (Some e) lives dead = refl
 
@@ -135,25 +138,25 @@ has_tags-same came places below (tag ∷ tags) (p ∷ row) =
 
 -- a place that passes a test, or none that does
 found_passes : (test : ℕ → Bool) (places : List ℕ) (place : ℕ) → find test places ≡ Some place → (has_number places place ≡ true) × (test place ≡ true)
-found_passes test [] place is = absurd (let no : ⊥ = cc in no)
-found_passes test (p ∷ places) place is = here (test p) refl is
+found_passes test [] place is = absurd (let wrong : ⊥ = cc in wrong)
+found_passes test (p ∷ places) place is = here (test p) refl is (λ found. found_passes test places place found)
   where
-    here : (b : Bool) → test p ≡ b → cond b (Some p) (find test places) ≡ Some place → (((p == place) || has_number places place) ≡ true) × (test place ≡ true)
-    here true passes found =
+    here : (b : Bool) → test p ≡ b → cond b (Some p) (find test places) ≡ Some place → (find test places ≡ Some place → (has_number places place ≡ true) × (test place ≡ true)) → (((p == place) || has_number places place) ≡ true) × (test place ≡ true)
+    here true passes found later =
         let same : p ≡ place = cc in
         (or_left (p == place) (has_number places place) (eq-eqb p place same), ap test (sym same) ∙ passes)
-    here false fails found = let rest = found_passes test places place found in (or_right (p == place) (has_number places place) rest.0, rest.1)
+    here false fails found later = let rest = later found in (or_right (p == place) (has_number places place) rest.0, rest.1)
 
 none_passes : (test : ℕ → Bool) (places : List ℕ) (place : ℕ) → find test places ≡ None → (has_number places place && test place) ≡ false
 none_passes test [] place is = refl
-none_passes test (p ∷ places) place is = here (test p) refl is
+none_passes test (p ∷ places) place is = here (test p) refl is (λ found. none_passes test places place found)
   where
     at : (same : Bool) → (p == place) ≡ same → test p ≡ false → (has_number places place && test place) ≡ false → ((same || has_number places place) && test place) ≡ false
     at true same fails rest = ap test (sym (eqb-true p place same)) ∙ fails
     at false same fails rest = rest
-    here : (b : Bool) → test p ≡ b → cond b (Some p) (find test places) ≡ None → (((p == place) || has_number places place) && test place) ≡ false
-    here true passes found = absurd (let no : ⊥ = cc in no)
-    here false fails found = at (p == place) refl fails (none_passes test places place found)
+    here : (b : Bool) → test p ≡ b → cond b (Some p) (find test places) ≡ None → (find test places ≡ None → (has_number places place && test place) ≡ false) → (((p == place) || has_number places place) && test place) ≡ false
+    here true passes found later = absurd (let wrong : ⊥ = cc in wrong)
+    here false fails found later = at (p == place) refl fails (later found)
 
 -- one row has these tags
 record IsRowOf (came : List Element) (places tags row : List ℕ) : Type 0 where
@@ -174,7 +177,7 @@ place_step : (places : List ℕ) (p q : ℕ) (same : Bool) → (q == p) ≡ same
 place_step places p q true is here =
     let same : q ≡ p = eqb-true q p is in
     ap (λ n. has_number places n && true) same ∙ ap (λ b. b && true) here ∙ sym (eq-eqb p q (sym same))
-place_step places p q false is here = and_false (has_number places q) ∙ sym (ne_eqb p q (λ same. let turned : (q == p) ≡ true = eq-eqb q p (sym same) in let no : ⊥ = cc in no))
+place_step places p q false is here = and_false (has_number places q) ∙ sym (ne_eqb p q (λ same. let turned : (q == p) ≡ true = eq-eqb q p (sym same) in let wrong : ⊥ = cc in wrong))
 
 only_step : (came : List Element) (places : List ℕ) (tag : ℕ) (tags : List ℕ) (p : ℕ) (row : List ℕ) → Rises (tags_of came) → has_number places p ≡ true → has_tag came tag p ≡ true → ((other : List ℕ) → has_tags came places tags other ≡ same_numbers row other) → (other : List ℕ) → has_tags came places (tag ∷ tags) other ≡ same_numbers (p ∷ row) other
 only_step came places tag tags p row rises here has rest [] = refl
@@ -196,9 +199,9 @@ row_step came places tag tags None rises below is rest = inr (record {
   none = λ other. none_more came places tag tags other is;
   gone = ap (λ found. is_some found && list_all (λ t. is_some (element_at (elements_of came places) t)) tags) (element_at-places came places tag ∙ ap (option_and_then (slice_get came)) is);
 })
-row_step came places tag tags (Some p) rises below is (inr no) = inr (record {
-  none = λ other. none_later came places tag tags other no.none;
-  gone = ap (λ b. is_some (element_at (elements_of came places) tag) && b) no.gone ∙ and_false (is_some (element_at (elements_of came places) tag));
+row_step came places tag tags (Some p) rises below is (inr absent) = inr (record {
+  none = λ other. none_later came places tag tags other absent.none;
+  gone = ap (λ b. is_some (element_at (elements_of came places) tag) && b) absent.gone ∙ and_false (is_some (element_at (elements_of came places) tag));
 })
 row_step came places tag tags (Some p) rises below is (inl some) =
     let passes = found_passes (has_tag came tag) places p is in
@@ -251,9 +254,9 @@ at_row rule joins came places tags row levels compiled below widths held has (in
     ∙ not_joined [] joins.positives (elements_of came row) (λ long. differs (sym (length-elements_of came row (HaveCome-living came places row below has.living)) ∙ long))))
 
 told_step : (rule : Rule) (joins : Joins) (came : List Element) (places tags : List ℕ) (levels : Levels) → IsCompiled rule joins → AllByRecursion (λ p. p < length came) places → AllByRecursion (λ row. length row ≡ length joins.positives) (levels (length joins.positives)) → AreLevels (joins_of joins.positives) came places levels → HaveRow came places tags → times (has_tags came places tags) (levels (length joins.positives)) ≡ one (takes_tags rule (elements_of came places) tags)
-told_step rule joins came places tags levels compiled below widths held (inr no) =
-    times-none (has_tags came places tags) (levels (length joins.positives)) (Each-always (λ row. has_tags came places tags row ≡ false) no.none (levels (length joins.positives)))
-    ∙ sym (ap (λ b. one (b && is_some (bindings_with rule (elements_at (elements_of came places) tags)))) no.gone)
+told_step rule joins came places tags levels compiled below widths held (inr absent) =
+    times-none (has_tags came places tags) (levels (length joins.positives)) (Each-always (λ row. has_tags came places tags row ≡ false) absent.none (levels (length joins.positives)))
+    ∙ sym (ap (λ b. one (b && is_some (bindings_with rule (elements_at (elements_of came places) tags)))) absent.gone)
 told_step rule joins came places tags levels compiled below widths held (inl some) =
     times-agree (has_tags came places tags) (same_numbers some.0) some.1.only (levels (length joins.positives))
     ∙ at_row rule joins came places tags some.0 levels compiled below widths held some.1 (cases_eq (length some.0) (length joins.positives))
@@ -274,3 +277,23 @@ rule_is_told came places alpha kept rule is rises below compiled =
     subst (λ n. AreFullMatches rule (elements_of came places) (map (tags_at came) (filter (is_living places) (rows_of kept.levels n)))) (sym is.filed.count)
     (full_matches_are_told rule kept.joins came places (rows_of kept.levels) compiled rises below
     (level_widths kept.joins.positives came places kept.levels (length kept.joins.positives) is.filed (omega (arith, is.filed.count))) is.right)
+
+-- what is left to tell past a dead row, and past a living one
+pub left-dead : (places : List ℕ) (rows : List (List ℕ)) (number : ℕ) (row : List ℕ) → slice_get rows number ≡ Some row → is_living places row ≡ false → filter (is_living places) (drop (number + 1) rows) ≡ filter (is_living places) (drop number rows)
+left-dead places rows number row at dead =
+    sym (filter-from (is_living places) rows number row at ∙ ap (λ b. cond b (row ∷ []) [] ++ filter (is_living places) (drop (number + 1) rows)) dead)
+
+pub left-living : (places : List ℕ) (rows : List (List ℕ)) (number : ℕ) (row : List ℕ) → slice_get rows number ≡ Some row → is_living places row ≡ true → filter (is_living places) (drop number rows) ≡ row ∷ filter (is_living places) (drop (number + 1) rows)
+left-living places rows number row at lives =
+    filter-from (is_living places) rows number row at ∙ ap (λ b. cond b (row ∷ []) [] ++ filter (is_living places) (drop (number + 1) rows)) lives
+
+pub none_left : (places : List ℕ) (rows : List (List ℕ)) (number other : ℕ) → length rows ≤ number → length rows ≤ other → filter (is_living places) (drop number rows) ≡ filter (is_living places) (drop other rows)
+none_left places rows number other past past_other = filter-end (is_living places) rows number past ∙ sym (filter-end (is_living places) rows other past_other)
+
+pub network_tells : (arrivals : Arrivals) (alpha : List Store) (rules : List RuleRows) (askers : List (List Asker)) (now : Network) (number : ℕ) (shown : List (List ℕ)) → ◌≡◌ {A = Network} (record { arrivals = arrivals; rules = rules }) now → IsNetwork arrivals.came arrivals.places alpha rules askers → Rises (tags_of arrivals.came) → AllByRecursion (λ p. p < length arrivals.came) arrivals.places → ((kept : RuleRows) → slice_get rules number ≡ Some kept → shown ≡ filter (is_living arrivals.places) (rows_of kept.levels (length kept.levels))) →
+    (rule : Rule) (kept : RuleRows) → slice_get now.rules number ≡ Some kept → IsCompiled rule kept.joins → AreFullMatches rule (memory_of now.arrivals) (map (tags_at now.arrivals.came) shown)
+network_tells arrivals alpha rules askers now number shown is held rises below shown_is rule kept there compiled =
+    let at : slice_get rules number ≡ Some kept = ap (λ (n : Network). slice_get n.rules number) is ∙ there in
+    subst (λ (n : Network). AreFullMatches rule (memory_of n.arrivals) (map (tags_at n.arrivals.came) shown)) is
+    (subst (λ rows. AreFullMatches rule (memory_of arrivals) (map (tags_at arrivals.came) rows)) (sym (shown_is kept at))
+    (rule_is_told arrivals.came arrivals.places alpha kept rule (Each-slice_get (IsRight arrivals.came arrivals.places alpha) rules number kept held.right at) rises below compiled))

@@ -33,5 +33,5 @@ pub fn what_is_filed_stays_right()
 /// The living rows for all positive condition elements, in the tags of their elements, are the full matches
 /// of the rule.
 pub fn living_rows_are_full_matches()
-    ensures told { FullMatchesAreTold }
+    ensures { FullMatchesAreTold }
 {}

@@ -2,5 +2,5 @@
 use Rattle.match_network.proofs.FullLemmas.{full_matches_are_told}
 use Rattle.match_network.proofs.laws.living_rows_are_full_matches.Goals as goal
 
-pub returns-clause-told : goal.returns-clause-told
-returns-clause-told c = full_matches_are_told
+pub returns : goal.returns
+returns c = full_matches_are_told
