@@ -1,5 +1,5 @@
 -- Rows for all positive condition elements, as lists of tags.
-use Rattle.std.proofs.Common.{◌≡◌, ◌⊎◌, ℕ, ◌+◌, ◌<◌, ◌≤◌, ◌==◌, ◌||◌, List, [], ◌∷◌, ◌++◌, Bool, true, false, cond, ◌&&◌, drop, length, map, zero, suc, refl, ap, sym, ◌∙◌, arith, inl, inr, subst, Option, Some, None, slice_get, is_some, option_and_then, find, length-append}
+use Rattle.std.proofs.Common.{◌≡◌, ◌⊎◌, ℕ, ◌+◌, ◌<◌, ◌≤◌, ◌==◌, ◌||◌, List, [], ◌∷◌, ◌++◌, Bool, true, false, cond, ◌&&◌, drop, length, map, zero, suc, refl, ap, sym, ◌∙◌, arith, inl, inr, subst, IfSome, Option, Some, None, slice_get, is_some, option_and_then, find, length-append}
 use Rattle.std.specs.List.{AllByRecursion, cons_option, filter, filter_map, list_all}
 use Rattle.std.specs.Option.{option_map_or}
 use Rattle.std.proofs.lemmas.Bool.{cases_eq, eqb-true, eq-eqb, ne_eqb, or_left, or_right}
@@ -30,7 +30,7 @@ use Rattle.match_network.specs.Rules.{IsRight, RuleRows}
 use Rattle.match_network.specs.Woven.{Levels}
 use Rattle.match_network.proofs.ComeLemmas.{Each-has, HaveCome-living, some_at}
 use Rattle.match_network.proofs.RowLemmas.{same_row}
-use Rattle.match_network.proofs.SoFarLemmas.{filter-end, filter-from}
+use Rattle.match_network.proofs.SoFarLemmas.{filter-from}
 use Rattle.match_network.proofs.TagLemmas.{has_tag_only}
 
 and_false : (b : Bool) → (b && false) ≡ false
@@ -154,6 +154,7 @@ none_passes test (p ∷ places) place is = here (test p) refl is (λ found. none
     at : (same : Bool) → (p == place) ≡ same → test p ≡ false → (has_number places place && test place) ≡ false → ((same || has_number places place) && test place) ≡ false
     at true same fails rest = ap test (sym (eqb-true p place same)) ∙ fails
     at false same fails rest = rest
+
     here : (b : Bool) → test p ≡ b → cond b (Some p) (find test places) ≡ None → (find test places ≡ None → (has_number places place && test place) ≡ false) → (((p == place) || has_number places place) && test place) ≡ false
     here true passes found later = absurd (let wrong : ⊥ = cc in wrong)
     here false fails found later = at (p == place) refl fails (later found)
@@ -207,12 +208,15 @@ row_step came places tag tags (Some p) rises below is (inl some) =
     let passes = found_passes (has_tag came tag) places p is in
     let first = some_at came p (Each-has (λ q. q < length came) places p below passes.0) in
     let at : element_at (elements_of came places) tag ≡ slice_get came p = element_at-places came places tag ∙ ap (option_and_then (slice_get came)) is in
-    inl (p ∷ some.0, record {
-      living = ap (λ b. b && is_living places some.0) passes.0 ∙ some.1.living;
-      only = only_step came places tag tags p some.0 rises passes.0 passes.1 some.1.only;
-      elements = ap (λ found. cons_option found (elements_at (elements_of came places) tags)) at ∙ ap (cons_option (slice_get came p)) some.1.elements;
-      there = ap (λ found. is_some found && list_all (λ t. is_some (element_at (elements_of came places) t)) tags) (at ∙ first.is) ∙ some.1.there;
-    })
+    inl (
+      p ∷ some.0,
+      record {
+        living = ap (λ b. b && is_living places some.0) passes.0 ∙ some.1.living;
+        only = only_step came places tag tags p some.0 rises passes.0 passes.1 some.1.only;
+        elements = ap (λ found. cons_option found (elements_at (elements_of came places) tags)) at ∙ ap (cons_option (slice_get came p)) some.1.elements;
+        there = ap (λ found. is_some found && list_all (λ t. is_some (element_at (elements_of came places) t)) tags) (at ∙ first.is) ∙ some.1.there;
+      },
+    )
 
 row_of : (came : List Element) (places : List ℕ) → Rises (tags_of came) → AllByRecursion (λ p. p < length came) places → (tags : List ℕ) → HaveRow came places tags
 row_of came places rises below [] = inl ([], record { living = refl; only = only_none; elements = refl; there = refl })
@@ -287,9 +291,7 @@ pub left-living : (places : List ℕ) (rows : List (List ℕ)) (number : ℕ) (r
 left-living places rows number row at lives =
     filter-from (is_living places) rows number row at ∙ ap (λ b. cond b (row ∷ []) [] ++ filter (is_living places) (drop (number + 1) rows)) lives
 
-pub none_left : (places : List ℕ) (rows : List (List ℕ)) (number other : ℕ) → length rows ≤ number → length rows ≤ other → filter (is_living places) (drop number rows) ≡ filter (is_living places) (drop other rows)
-none_left places rows number other past past_other = filter-end (is_living places) rows number past ∙ sym (filter-end (is_living places) rows other past_other)
-
+-- the same of a network
 pub network_tells : (arrivals : Arrivals) (alpha : List Store) (rules : List RuleRows) (askers : List (List Asker)) (now : Network) (number : ℕ) (shown : List (List ℕ)) → ◌≡◌ {A = Network} (record { arrivals = arrivals; rules = rules }) now → IsNetwork arrivals.came arrivals.places alpha rules askers → Rises (tags_of arrivals.came) → AllByRecursion (λ p. p < length arrivals.came) arrivals.places → ((kept : RuleRows) → slice_get rules number ≡ Some kept → shown ≡ filter (is_living arrivals.places) (rows_of kept.levels (length kept.levels))) →
     (rule : Rule) (kept : RuleRows) → slice_get now.rules number ≡ Some kept → IsCompiled rule kept.joins → AreFullMatches rule (memory_of now.arrivals) (map (tags_at now.arrivals.came) shown)
 network_tells arrivals alpha rules askers now number shown is held rises below shown_is rule kept there compiled =
@@ -297,3 +299,8 @@ network_tells arrivals alpha rules askers now number shown is held rises below s
     subst (λ (n : Network). AreFullMatches rule (memory_of n.arrivals) (map (tags_at n.arrivals.came) shown)) is
     (subst (λ rows. AreFullMatches rule (memory_of arrivals) (map (tags_at arrivals.came) rows)) (sym (shown_is kept at))
     (rule_is_told arrivals.came arrivals.places alpha kept rule (Each-slice_get (IsRight arrivals.came arrivals.places alpha) rules number kept held.right at) rises below compiled))
+
+-- the first row that is told, and those that are left
+pub first_told : (places : List ℕ) (rows : List (List ℕ)) (left : List (List ℕ)) (from number : ℕ) (row : List ℕ) → filter (is_living places) (drop from rows) ≡ left → filter (is_living places) (drop number rows) ≡ filter (is_living places) (drop from rows) → slice_get rows number ≡ Some row → IfSome (slice_get rows number) (λ found. is_living places found ≡ true) → left ≡ row ∷ filter (is_living places) (drop (number + 1) rows)
+first_told places rows left from number row is same at lives =
+    sym is ∙ sym same ∙ left-living places rows number row at (subst (λ found. IfSome found (λ r. is_living places r ≡ true)) at lives)

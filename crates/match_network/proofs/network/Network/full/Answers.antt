@@ -17,7 +17,7 @@ returns-clause-exact c =
     let here : slice_get rules c.args.number ≡ Some c.index.result.now = slice_get-here rules c.args.number c.index.result.now within c.index.ensures in
     let told : (kept : RuleRows) → slice_get rules c.args.number ≡ Some kept → c.living.result ≡ filter lives (rows_of kept.levels (length kept.levels)) =
     λ kept there.
-        let both : Some c.index.result.now ≡ Some kept = sym here ∙ there in
-        let same : c.index.result.now ≡ kept = cc in
-        c.living.ensures.rows ∙ ap (filter lives) c.in-Some.ensures.some ∙ ap (λ (k : RuleRows). filter lives (rows_of k.levels (length k.levels))) same in
+    let both : Some c.index.result.now ≡ Some kept = sym here ∙ there in
+    let same : c.index.result.now ≡ kept = cc in
+    c.living.ensures.rows ∙ ap (filter lives) c.in-Some.ensures.some ∙ ap (λ (k : RuleRows). filter lives (rows_of k.levels (length k.levels))) same in
     network_tells inside.arrivals inside.set.alpha rules inside.set.askers.items c.args.self.now c.args.number c.living.result c.self.view_is c.self.invariant c.living.ensures.tags c.living.ensures.below told
