@@ -1,6 +1,6 @@
 -- Rows for all positive condition elements, as lists of tags.
 use Rattle.std.proofs.Common.{◌≡◌, ◌⊎◌, ℕ, ◌+◌, ◌<◌, ◌≤◌, ◌==◌, ◌||◌, List, [], ◌∷◌, ◌++◌, Bool, true, false, cond, ◌&&◌, drop, length, map, zero, suc, refl, ap, sym, ◌∙◌, arith, inl, inr, subst, IfSome, Option, Some, None, slice_get, is_some, option_and_then, find, length-append}
-use Rattle.std.specs.List.{AllByRecursion, cons_option, filter, filter_map, list_all}
+use Rattle.std.specs.List.{AllByRecursion, cons_option, filter, list_all}
 use Rattle.std.specs.Option.{option_map_or}
 use Rattle.std.proofs.lemmas.Bool.{cases_eq, eqb-true, eq-eqb, ne_eqb, or_left, or_right}
 use Rattle.std.proofs.lemmas.Bool.Decides.{nat_tests}

@@ -1,6 +1,6 @@
 //! The full matches of a rule, as rows of places. It knows no joins.
 
-ghost use Rattle.std.specs.Prelude.{◌≡◌, true, IfSome, drop, filter, length, slice_get};
+ghost use Rattle.std.specs.Prelude.{◌≡◌, true, IfSome, drop, filter, slice_get};
 ghost use Rattle.match_network.specs.Row.{is_living};
 
 use crate::{Arrivals, Rows};

@@ -1,5 +1,5 @@
 -- A dead row is passed over, and a living one is told.
-use Rattle.std.proofs.Common.{◌≡◌, ◌∙◌, sym}
+use Rattle.std.proofs.Common.{◌∙◌, sym}
 use Rattle.match_network.proofs.FullLemmas.{left-dead}
 use Rattle.match_network.proofs.full.next_living.Goals as goal
 
