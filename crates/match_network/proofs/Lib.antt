@@ -36,3 +36,5 @@ pub mod PassedLemmas
 pub mod StopLemmas
 pub mod SetChangeLemmas
 pub mod DueWorkLemmas
+-- full matches
+pub mod FullLemmas

@@ -23,3 +23,5 @@ pub mod Rules
 pub mod Network
 -- how much work one element makes
 pub mod JoinWork
+-- the full matches of a rule
+pub mod Full

@@ -10,6 +10,7 @@ ghost use Rattle.rule_base.specs.Views.{element_in};
 ghost use Rattle.match_network.specs.Arrivals.{has_tag, with_arrival, without_tag};
 ghost use Rattle.match_network.specs.Row.{is_living};
 
+use crate::{FullRows, Rows};
 use hash_buckets::Living;
 use ops_text::OutOfMemory;
 use rule_base::{ElementView, Elements, Steps};
@@ -97,6 +98,16 @@ impl Arrivals {
         ensures { result ≡ is_living self.now.places row.now }
     {
         row.iter().all(|place| self.has(*place))
+    }
+
+    /// Those of these rows whose places are all in working memory.
+    pub(crate) fn living<'a>(&'a self, rows: &'a Rows) -> FullRows<'a>
+        ensures rows { result ≡ filter (is_living self.now.places) rows.now.rows }
+        ensures tags { Rises (tags_of self.now.came) }
+        ensures below { AllByRecursion (λ p. p < length self.now.came) self.now.places }
+    {
+        let _elements = &self.elements;
+        FullRows::new(rows, self)
     }
 
     /// The element that came at a place.

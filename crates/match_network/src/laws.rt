@@ -1,5 +1,6 @@
 //! Laws of what the levels hold. Each function here does nothing: its contract is the law.
 
+ghost use Rattle.match_network.specs.Full.{FullMatchesAreTold};
 ghost use Rattle.match_network.specs.FilingLaws.{LevelsMayBePacked, LevelsMeetArrivals, LevelsMeetRemovals, StoresMayBePacked, StoresMeetArrivals, StoresMeetRemovals};
 ghost use Rattle.match_network.specs.Laws.{AddingGoesOn, DeadMayGo, PlacesMayGo, WeavingBegins, WeavingEnds, WeavingGoesOn, WeavingMayStop};
 
@@ -27,4 +28,10 @@ pub fn what_is_filed_stays_right()
     ensures store_removals { StoresMeetRemovals }
     ensures packing { LevelsMayBePacked }
     ensures store_packing { StoresMayBePacked }
+{}
+
+/// The living rows for all positive condition elements, in the tags of their elements, are the full matches
+/// of the rule.
+pub fn living_rows_are_full_matches()
+    ensures { FullMatchesAreTold }
 {}

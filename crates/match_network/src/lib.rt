@@ -5,6 +5,7 @@
 mod arrivals;
 mod askers;
 mod due;
+mod full;
 pub mod laws;
 mod level;
 mod network;
@@ -16,6 +17,7 @@ mod stage;
 mod weaving;
 
 pub use arrivals::Arrivals;
+pub use full::FullRows;
 pub use level::Level;
 pub use network::Network;
 pub use rows::Rows;

@@ -1,18 +1,22 @@
 //! The match network of a program's rules.
 
-ghost use Rattle.std.specs.Prelude.{◌≡◌, ◌+◌, ◌<◌, ◌≤◌, ◌⊎◌, [], ◌∷◌, ◌++◌, IfOk, OnErr, OnOk, Some, length, slice_get};
+ghost use Rattle.std.specs.Prelude.{◌≡◌, ◌+◌, ◌<◌, ◌≤◌, ◌⊎◌, [], ◌∷◌, ◌++◌, IfOk, IfSome, OnErr, OnOk, Some, filter, length, map, slice_get};
 ghost use Rattle.std.specs.List.{AllByRecursion};
 ghost use Rattle.rule_base.specs.declared.element.Element.{Element};
+ghost use Rattle.rule_base.specs.declared.program.Rule.{Rule};
 ghost use Rattle.rule_base.specs.Views.{element_in};
+ghost use Rattle.join_tests.specs.Meaning.{IsCompiled};
 ghost use Rattle.match_network.specs.Arrivals.{with_arrival, without_tag};
 ghost use Rattle.match_network.specs.Conditions.{joins_of, rows_of};
 ghost use Rattle.match_network.specs.JoinWork.{join_work_of};
+ghost use Rattle.match_network.specs.Full.{AreFullMatches, memory_of, tags_at};
 ghost use Rattle.match_network.specs.Levels.{AreLevels};
 ghost use Rattle.match_network.specs.Network.{joins_in};
-ghost use Rattle.match_network.specs.Rules.{AreCompiled};
+ghost use Rattle.match_network.specs.Row.{is_living};
+ghost use Rattle.match_network.specs.Rules.{AreCompiled, RuleRows};
 
 use crate::rule_set::RuleSet;
-use crate::{Arrivals, RuleLevels};
+use crate::{Arrivals, FullRows, RuleLevels};
 use ops_text::OutOfMemory;
 use rule_base::{ElementView, Rule, Steps};
 use std::alloc::Global;
@@ -100,9 +104,28 @@ impl Network {
     pub fn rule(&self, number: usize) -> &RuleLevels
         requires { number < length self.now.rules }
         ensures rule { slice_get self.now.rules number ≡ Some result.now }
+        ensures count { length result.now.levels ≡ length result.now.joins.positives }
         ensures right { AreLevels (joins_of result.now.joins.positives) self.now.arrivals.came self.now.arrivals.places (rows_of result.now.levels) }
     {
         &self.set.rules[number]
+    }
+
+    /// The full matches of the rule with this number, as rows of places: those of its rows whose elements
+    /// are in working memory. It takes no memory. They come in no order that is told.
+    pub fn full(&self, number: usize) -> FullRows<'_>
+        requires number { number < length self.now.rules }
+        requires some { IfSome (slice_get self.now.rules number) (λ kept. 0 < length kept.joins.positives) }
+        ensures rows { (kept : RuleRows) → slice_get self.now.rules number ≡ Some kept →
+            result ≡ filter (is_living self.now.arrivals.places) (rows_of kept.levels (length kept.levels)) }
+
+        // Told in tags they are what the rule takes, each once.
+        ensures exact { (rule : Rule) (kept : RuleRows) → slice_get self.now.rules number ≡ Some kept → IsCompiled rule kept.joins →
+            AreFullMatches rule (memory_of self.now.arrivals) (map (tags_at self.now.arrivals.came) result) }
+    {
+        match self.set.rules[number].rows() {
+            Some(rows) => self.arrivals.living(rows),
+            None => unreachable!(),
+        }
     }
 
     /// The elements that came, and which of them are in working memory.

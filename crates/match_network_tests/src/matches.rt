@@ -2,7 +2,7 @@
 
 ghost use Rattle.std.specs.Prelude.{◌<◌, length};
 
-use match_network::{Arrivals, Network, Rows};
+use match_network::{Arrivals, FullRows, Network};
 use ops_text::OutOfMemory;
 use rule_base::ElementView;
 use std::alloc::Global;
@@ -16,7 +16,7 @@ pub fn element_at(arrivals: &Arrivals, place: u32) -> Option<ElementView<'_>> {
     Some(arrivals.at(place))
 }
 
-/// The lists of tags of the rule's rows whose elements are in working memory, in rising order.
+/// The lists of tags of a rule's full matches, in rising order.
 pub fn full_matches(
     alloc: Global,
     network: &Network,
@@ -25,19 +25,20 @@ pub fn full_matches(
     requires { number < length network.now.rules }
 {
     match network.rule(number).rows() {
-        Some(rows) => living(alloc, rows, network.arrivals()),
+        Some(_) => all_tags(alloc, network.full(number), network.arrivals()),
         None => Ok(Vec::new(alloc)),
     }
 }
 
-/// The lists of tags of the rows whose elements are in working memory, in rising order.
-fn living(alloc: Global, rows: &Rows, arrivals: &Arrivals) -> Result<Vec<Vec<u64>>, OutOfMemory> {
+/// The lists of tags of rows, in rising order.
+fn all_tags(
+    alloc: Global,
+    rows: FullRows<'_>,
+    arrivals: &Arrivals,
+) -> Result<Vec<Vec<u64>>, OutOfMemory> {
     let mut lists = Vec::new(alloc);
-    for number in 0..rows.len() {
-        let row = rows.at(number);
-        if arrivals.have(row) {
-            lists.push(tags_at(alloc, arrivals, row)?)?;
-        }
+    for row in rows {
+        lists.push(tags_at(alloc, arrivals, row)?)?;
     }
     lists.as_mut_slice().sort_unstable();
     Ok(lists)
