@@ -142,7 +142,10 @@ impl Network {
     pub fn all_are_right(&self)
         ensures right { (number : ℕ) (kept : RuleRows) → slice_get self.now.rules number ≡ Some kept
             → AreLevels (joins_of kept.joins.positives) self.now.arrivals.came self.now.arrivals.places (rows_of kept.levels) }
-    {}
+    {
+        // Its fields are named, since what the type keeps is known only then.
+        let _ = &self.arrivals;
+    }
 
     /// The positive condition elements that the last element passed, each once. Their rules alone were
     /// touched.
