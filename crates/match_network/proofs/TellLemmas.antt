@@ -1,12 +1,13 @@
 -- What a network tells of what stands in the way of a row.
 use Rattle.std.proofs.Common.{◌≡◌, ℕ, ◌+◌, ◌≤◌, List, true, IfSome, None, Option, Some, refl, subst, sym, ◌∙◌, slice_get}
-use Rattle.std.specs.List.{list_all}
+use Rattle.std.specs.List.{AllByRecursion, list_all}
 use Rattle.rule_base.specs.declared.element.Element.{Element}
-use Rattle.rule_base.proofs.EachLemmas.{Each-weaker}
+use Rattle.rule_base.proofs.EachLemmas.{Each-slice_get, Each-weaker}
 use Rattle.join_tests.specs.Meaning.{is_free}
 use Rattle.alpha_memory.specs.Stores.{Store}
 use Rattle.match_network.specs.declared.askers.Asker.{Asker}
-use Rattle.match_network.specs.Conditions.{AreCleaned}
+use Rattle.match_network.specs.Conditions.{AreCleaned, joins_of, rows_of}
+use Rattle.match_network.specs.Levels.{AreLevels}
 use Rattle.match_network.specs.Negated.{IsWholeRow, blockers_tried, blocks, whole_rows}
 use Rattle.match_network.specs.Network.{IsNetwork}
 use Rattle.match_network.specs.Row.{elements_of}
@@ -50,3 +51,7 @@ pub kept_steps : (rules : List RuleRows) (rule number : ℕ) (this : RuleRows) (
 kept_steps rules rule number this came places before after there held kept row w =
     let same = this_rule rules rule number this kept row there w in
     subst (λ (r : RuleRows). after ≤ before + blockers_tried r.joins.negated came places row) same (held row (subst (λ (r : RuleRows). slice_get (whole_rows r) number ≡ Some row) (sym same) w.row_is))
+
+-- what is right of all is right of each
+pub each_is_right : (came : List Element) (places : List ℕ) (alpha : List Store) (rules : List RuleRows) → AllByRecursion (IsRight came places alpha) rules → (number : ℕ) (kept : RuleRows) → slice_get rules number ≡ Some kept → AreLevels (joins_of kept.joins.positives) came places (rows_of kept.levels)
+each_is_right came places alpha rules all number kept there = (Each-slice_get (IsRight came places alpha) rules number kept all there).right

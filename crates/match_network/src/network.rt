@@ -10,7 +10,7 @@ ghost use Rattle.match_network.specs.Arrivals.{has_tag, with_arrival, without_ta
 ghost use Rattle.match_network.specs.Conditions.{joins_of, rows_of};
 ghost use Rattle.match_network.specs.Levels.{AreLevels};
 ghost use Rattle.match_network.specs.Negated.{IsWholeRow, blockers_tried, blocks, whole_rows};
-ghost use Rattle.match_network.specs.Network.{joins_in};
+ghost use Rattle.match_network.specs.Network.{AreAllRight, joins_in};
 ghost use Rattle.match_network.specs.Row.{elements_of};
 ghost use Rattle.match_network.specs.Rules.{AreCompiled, RuleRows};
 ghost use Rattle.match_network.specs.Touched.{AllGrow, AreNegatedDue, OthersStay};
@@ -140,10 +140,9 @@ impl Network {
 
     /// What is kept of each rule is right, as `rule` tells of one. It does nothing.
     pub fn all_are_right(&self)
-        ensures right { (number : ℕ) (kept : RuleRows) → slice_get self.now.rules number ≡ Some kept
-            → AreLevels (joins_of kept.joins.positives) self.now.arrivals.came self.now.arrivals.places (rows_of kept.levels) }
+        ensures right { AreAllRight self.now }
     {
-        // Its fields are named, since what the type keeps is known only then.
+        // What the type keeps is known only where a field is named.
         let _ = &self.arrivals;
     }
 

@@ -58,7 +58,7 @@ loop-number-preserved g c =
     let lt : l.number < length c.args.negated.now = omega (arith, c.loop-number-test.true) in
     let is : this ≡ get_or c.args.negated.now l.number this = search rules in
     let one : tried this ≡ tried (get_or c.args.negated.now l.number this) = ap tried is in
-    let here : free (get_or c.args.negated.now l.number this) ≡ true = ap free (sym is) ∙ c.in-None.ensures.none refl in
+    let here : free (get_or c.args.negated.now l.number this) ≡ true = ap free (sym is) ∙ c.find_one.ensures.none c.in_default.is in
     record {
       free = list_all_more free c.args.negated.now l.number this lt
           ∙ ap (λ b. b && free (get_or c.args.negated.now l.number this)) l.invariant.free

@@ -1,9 +1,10 @@
 -- Each is right, since all are.
-use Rattle.rule_base.proofs.EachLemmas.{Each-slice_get}
-use Rattle.match_network.specs.Rules.{IsRight}
+use Rattle.std.proofs.Common.{subst}
+use Rattle.match_network.specs.Network.{AreAllRight}
+use Rattle.match_network.proofs.TellLemmas.{each_is_right}
 use Rattle.match_network.proofs.network.Network.all_are_right.Goals as goal
 
 pub returns : goal.returns
-returns c number kept there =
+returns c =
     let inside = c.self.inside in
-    (Each-slice_get (IsRight inside.arrivals.came inside.arrivals.places inside.set.alpha) inside.set.rules.items number kept c.self.invariant.right there).right
+    record { right = subst AreAllRight c.self.view_is (each_is_right inside.arrivals.came inside.arrivals.places inside.set.alpha inside.set.rules.items c.self.invariant.right) }
