@@ -39,8 +39,8 @@ pub kept_blocks : (rules : List RuleRows) (rule number : ℕ) (this : RuleRows) 
 kept_blocks rules rule number this came found there held =
     if_more (λ place. (row : List ℕ) → slice_get (whole_rows this) number ≡ Some row → blocks this.joins came row place ≡ true) (λ place. (kept : RuleRows) (row : List ℕ) → IsWholeRow rules rule number kept row → blocks kept.joins came row place ≡ true)
     (λ place all kept row w.
-        let same = this_rule rules rule number this kept row there w in
-        subst (λ (r : RuleRows). blocks r.joins came row place ≡ true) same (all row (subst (λ (r : RuleRows). slice_get (whole_rows r) number ≡ Some row) (sym same) w.row_is))) found held
+    let same = this_rule rules rule number this kept row there w in
+    subst (λ (r : RuleRows). blocks r.joins came row place ≡ true) same (all row (subst (λ (r : RuleRows). slice_get (whole_rows r) number ≡ Some row) (sym same) w.row_is))) found held
 
 pub kept_free : (rules : List RuleRows) (rule number : ℕ) (this : RuleRows) (came : List Element) (places : List ℕ) → slice_get rules rule ≡ Some this → ((row : List ℕ) → slice_get (whole_rows this) number ≡ Some row → list_all (is_free (elements_of came places) (elements_of came row)) this.joins.negated ≡ true) → (kept : RuleRows) (row : List ℕ) → IsWholeRow rules rule number kept row → list_all (is_free (elements_of came places) (elements_of came row)) kept.joins.negated ≡ true
 kept_free rules rule number this came places there held kept row w =

@@ -146,15 +146,16 @@ impl Network {
         let _ = &self.arrivals;
     }
 
-    /// The positive condition elements that the last element passed, each once. Their rules alone were
-    /// touched.
+    /// The positive condition elements that the last element to be added passed. No other rules were
+    /// touched. After want of memory some may be missing, and their rules are as before.
     pub fn due(&self) -> &[Asker]
         ensures { result.now ≡ self.now.due }
     {
         self.set.due.as_slice()
     }
 
-    /// The negated condition elements that the last element passed, each once.
+    /// The negated condition elements that the last element to be added passed. After want of memory some
+    /// may be missing.
     pub fn negated_due(&self) -> &[Asker]
         ensures { result.now ≡ self.now.negated_due }
     {

@@ -1,13 +1,10 @@
 -- One negated condition element more.
-use Rattle.std.proofs.Common.{◌≡◌, ℕ, ◌+◌, ◌<◌, ◌≤◌, ◌&&◌, List, ap, arith, get_or, length, refl, rules, subst, sym, take, true, ◌∙◌}
-use Rattle.std.specs.List.{list_all, list_any}
-use Rattle.std.proofs.lemmas.List.{take_all}
-use Rattle.std.proofs.lemmas.List.Folds.{list_all_more, list_any_at}
-use Rattle.std.proofs.lemmas.List.Sums.{sum_by_more, sum_by_more_le}
+use Rattle.std.proofs.Common.{◌≡◌, ℕ, ◌<◌, ◌&&◌, ap, arith, get_or, length, refl, rules, subst, sym, take, true, ◌∙◌}
+use Rattle.std.proofs.lemmas.List.Folds.{list_all_more}
+use Rattle.std.proofs.lemmas.List.Sums.{sum_by_more}
 use Rattle.join_tests.specs.declared.joins.Negated.{Negated}
 use Rattle.join_tests.specs.Meaning.{is_free}
 use Rattle.match_network.specs.Conditions.{IsServed}
-use Rattle.match_network.specs.Negated.{blockers_tried, blocks_at}
 use Rattle.match_network.specs.Row.{elements_of}
 use Rattle.match_network.specs.Tried.{places_tried}
 use Rattle.match_network.proofs.ComeLemmas.{slice_get-here}
