@@ -162,17 +162,17 @@ all_work came places e alpha rules due below held each once =
       sum-total most rules,
     )
 
-pub set_work : (now : Arrivals) (e : Element) (place : ℕ) (alpha : List Store) (rules : List RuleRows) (askers : List (List Asker)) (due : List Asker) → IsBefore now e place alpha rules askers → AreAllDue e alpha askers due → sum_by (due_tried rules now.came now.places place) due ≤ join_work_of rules now.came (filter (other_than place) now.places) place
-set_work now e place alpha rules askers due b d =
+pub set_work : (now : Arrivals) (e : Element) (place : ℕ) (alpha : List Store) (rules : List RuleRows) (askers asks : List (List Asker)) (due : List Asker) → IsBefore now e place alpha rules askers asks → AreAllDue e alpha askers due → sum_by (due_tried rules now.came now.places place) due ≤ join_work_of rules now.came (filter (other_than place) now.places) place
+set_work now e place alpha rules askers asks due b d =
     let came = b.before.came in
     let places = b.before.places in
     let each : AllByRecursion (IsDue (came ++ e ∷ []) (length came) rules) due =
     subst (λ p. AllByRecursion (IsDue (came ++ e ∷ []) p rules) due) b.place_is
-    (subst (λ (a : Arrivals). AllByRecursion (IsDue a.came place rules) due) b.is (set_due now e place alpha rules askers due b d)) in
+    (subst (λ (a : Arrivals). AllByRecursion (IsDue a.came place rules) due) b.is (set_due now e place alpha rules askers asks due b d)) in
     subst (λ (a : Arrivals). sum_by (due_tried rules a.came a.places place) due ≤ join_work_of rules a.came (filter (other_than place) a.places) place) (sym b.is)
     (subst (λ p. sum_by (due_tried rules (came ++ e ∷ []) (places ++ length came ∷ []) p) due ≤ join_work_of rules (came ++ e ∷ []) (filter (other_than p) (places ++ length came ∷ [])) p) (sym b.place_is)
     (subst (λ ps. sum_by (due_tried rules (came ++ e ∷ []) (places ++ length came ∷ []) (length came)) due ≤ join_work_of rules (came ++ e ∷ []) ps (length came)) (sym (without_last places (length came) b.below))
-    (all_work came places e alpha rules due b.below b.held.right each (set_once now e place alpha rules askers due b d))))
+    (all_work came places e alpha rules due b.below b.held.right each (set_once now e place alpha rules askers asks due b d))))
 
 -- and at the network, where the places are those before
 pub network_work : (before now : Arrivals) (e : Element) (place : ℕ) (rules : List RuleRows) → AllByRecursion (λ p. p < length before.came) before.places → now.came ≡ before.came ++ e ∷ [] → now.places ≡ before.places ++ length before.came ∷ [] → place ≡ length before.came → join_work_of rules now.came (filter (other_than place) now.places) place ≡ join_work_of rules (before.came ++ e ∷ []) before.places (length before.came)

@@ -29,8 +29,11 @@ pub mod WorkLemmas
 -- all rules
 pub mod AskerLemmas
 pub mod RuleLemmas
+pub mod NegatedLemmas
+pub mod BlockLemmas
 pub mod SetLemmas
 pub mod DueLemmas
+pub mod TouchedLemmas
 pub mod TakeLemmas
 pub mod PassedLemmas
 pub mod StopLemmas
@@ -38,3 +41,4 @@ pub mod SetChangeLemmas
 pub mod DueWorkLemmas
 -- full matches
 pub mod FullLemmas
+pub mod TellLemmas

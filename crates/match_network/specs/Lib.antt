@@ -20,6 +20,10 @@ pub mod FilingLaws
 pub mod Tried
 -- all rules
 pub mod Rules
+-- what stands in the way of a row
+pub mod Negated
+-- what an element that came has touched
+pub mod Touched
 pub mod Network
 -- how much work one element makes
 pub mod JoinWork

@@ -7,6 +7,7 @@ ghost use Rattle.match_network.specs.Conditions.{joins_of, rows_of};
 ghost use Rattle.match_network.specs.Rules.{AreStopped, AreWovenIn, IsDue, IsKept, IsStep, RuleRows, is_asker};
 ghost use Rattle.alpha_memory.specs.Times.{times};
 ghost use Rattle.match_network.specs.Tried.{due_tried};
+ghost use Rattle.match_network.specs.Touched.{AreTouched};
 ghost use Rattle.match_network.specs.Woven.{woven};
 
 use crate::askers::Asker;
@@ -36,6 +37,7 @@ pub(crate) fn weave_all<L: Ledger>(
 
     // What is tried at each of them is told by the rules as they were before the first.
     ensures steps { steps.new ≤ steps.old + sum_by (due_tried rules.old arrivals.now.came arrivals.now.places place) due.now }
+    ensures touched { AreTouched arrivals.now.places due.now alpha.old alpha.new rules.old rules.new }
 {
     for number in 0..due.len() {
         weave_at(due[number], place, arrivals, alpha, rules, steps)?;

@@ -8,6 +8,7 @@ mod due;
 mod full;
 pub mod laws;
 mod level;
+mod negated;
 mod network;
 mod row_view;
 mod rows;
@@ -18,6 +19,7 @@ mod weaving;
 
 pub use arrivals::Arrivals;
 pub use full::FullRows;
+pub use askers::Asker;
 pub use level::Level;
 pub use network::Network;
 pub use rows::Rows;
