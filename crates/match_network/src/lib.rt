@@ -18,8 +18,8 @@ mod stage;
 mod weaving;
 
 pub use arrivals::Arrivals;
-pub use full::FullRows;
 pub use askers::Asker;
+pub use full::FullRows;
 pub use level::Level;
 pub use network::Network;
 pub use rows::Rows;

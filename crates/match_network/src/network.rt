@@ -162,6 +162,8 @@ impl Network {
             Some(rows) => self.arrivals.living(rows),
             None => unreachable!(),
         }
+    }
+
     /// What is kept of each rule is right, as `rule` tells of one. It does nothing.
     pub fn all_are_right(&self)
         ensures right { AreAllRight self.now }
