@@ -15,7 +15,6 @@ ghost use Rattle.match_network.specs.Levels.{AreLevels};
 ghost use Rattle.match_network.specs.Network.{joins_in, AreAllRight};
 ghost use Rattle.match_network.specs.Row.{is_living, elements_of};
 ghost use Rattle.match_network.specs.Rules.{AreCompiled, RuleRows};
-
 ghost use Rattle.match_network.specs.Negated.{IsWholeRow, blockers_tried, blocks, whole_rows};
 ghost use Rattle.match_network.specs.Touched.{AllGrow, AreNegatedDue, OthersStay};
 

@@ -36,6 +36,7 @@ returns-clause-steps g c =
     (ap (λ (a : Arrivals). a.came) c.in_ok-place.ensures.ok) (ap (λ (a : Arrivals). a.places) c.in_ok-place.ensures.ok) c.in_ok-place.ensures.place in
     subst (λ (n : Network). c.take_in.new.steps ≤ c.args.steps.now + join_work_of n.rules (n.arrivals.came ++ element_in c.args.element ∷ []) n.arrivals.places (length n.arrivals.came)) c.self.view_is
     (omega (arith, c.take_in.ensures.steps, most))
+
 pub returns-in-Err-clause-grows : goal.returns-in-Err-clause-grows
 returns-in-Err-clause-grows g c =
     let inside = c.self.inside in
