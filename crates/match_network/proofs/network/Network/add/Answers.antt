@@ -1,11 +1,11 @@
 -- The element that came is taken out again.
-use Rattle.std.proofs.Common.{◌+◌, ◌≤◌, [], ◌∷◌, ◌++◌, ap, arith, length, subst, ◌∙◌, refl}
+use Rattle.std.proofs.Common.{◌+◌, ◌≤◌, [], ◌∷◌, ◌++◌, ap, arith, length, subst, ◌∙◌}
 use Rattle.rule_base.specs.Views.{element_in}
 use Rattle.match_network.specs.Arrivals.{Arrivals}
 use Rattle.match_network.specs.JoinWork.{join_work_of}
 use Rattle.match_network.specs.Network.{Network}
 use Rattle.match_network.proofs.DueWorkLemmas.{network_work}
-use Rattle.match_network.proofs.SetChangeLemmas.{network_undone, places_undone, grow_undone, same_grow}
+use Rattle.match_network.proofs.SetChangeLemmas.{network_undone, places_undone, grow_undone}
 use Rattle.match_network.specs.Touched.{AllGrow}
 use Rattle.match_network.proofs.network.Network.add.Goals as goal
 

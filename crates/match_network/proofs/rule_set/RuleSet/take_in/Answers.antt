@@ -1,5 +1,5 @@
 -- The rules go on from those before the element to those with it.
-use Rattle.std.proofs.Common.{◌≡◌, ◌+◌, ◌≤◌, ◌++◌, [], List, ap, arith, drop, filter, length, rules, subst, sym, take, ◌∙◌, refl}
+use Rattle.std.proofs.Common.{◌≡◌, ◌+◌, ◌≤◌, ◌++◌, [], List, ap, arith, drop, filter, length, rules, subst, sym, take, ◌∙◌}
 use Rattle.std.specs.List.{AllByRecursion, sum_by}
 use Rattle.std.specs.Result.{OnErr, OnOk}
 use Rattle.rule_base.specs.Views.{element_in}
