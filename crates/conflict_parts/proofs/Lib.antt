@@ -1,0 +1,2 @@
+-- who waits where
+pub mod WaiterLemmas
