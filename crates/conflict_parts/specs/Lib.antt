@@ -2,3 +2,5 @@
 pub mod Standings
 -- who waits at which place
 pub mod Waiters
+-- who is to be looked at
+pub mod Queue

@@ -2,6 +2,7 @@
 //! marked as fired. It knows no order of choices, and no journal.
 #![tactic(auto)]
 
+mod queue;
 mod standing;
 mod waiters;
 
