@@ -4,3 +4,5 @@ pub mod Standings
 pub mod Waiters
 -- who is to be looked at
 pub mod Queue
+-- which full matches are candidates
+pub mod Part

@@ -2,9 +2,13 @@
 //! marked as fired. It knows no order of choices, and no journal.
 #![tactic(auto)]
 
+mod candidates;
+mod opening;
+mod part;
 mod queue;
 mod standing;
 mod waiters;
 
+pub use part::Part;
 pub use standing::{RowId, Standing, Standings};
 pub use waiters::{Waiters, WaitersAt};
