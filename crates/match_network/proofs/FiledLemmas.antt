@@ -194,7 +194,7 @@ offer_step false false false false is = refl
 pub turned : (a b : ℕ) → (a == b) ≡ true → (b == a) ≡ true
 turned a b same = eq-eqb b a (sym (eqb-true a b same))
 
-offered_found : (join : Join) (came : List Element) (row : List ℕ) (found : Option Element) → some_passes (λ e. (passes join.pattern e && same_key join.key (elements_of came row) e) && tests_hold join.tests (elements_of came row) e) found
+pub offered_found : (join : Join) (came : List Element) (row : List ℕ) (found : Option Element) → some_passes (λ e. (passes join.pattern e && same_key join.key (elements_of came row) e) && tests_hold join.tests (elements_of came row) e) found
     ≡ (some_passes (agrees join (elements_of came row)) found && ((option_map_or (λ e. hash_of (key_of_element join.key e)) found 0 == row_hash join came row) && some_passes (passes join.pattern) found))
 offered_found join came row None = refl
 offered_found join came row (Some e) =

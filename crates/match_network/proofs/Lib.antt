@@ -25,8 +25,11 @@ pub mod TriedLemmas
 -- all rules
 pub mod AskerLemmas
 pub mod RuleLemmas
+pub mod NegatedLemmas
+pub mod BlockLemmas
 pub mod SetLemmas
 pub mod DueLemmas
+pub mod TouchedLemmas
 pub mod TakeLemmas
 pub mod PassedLemmas
 pub mod StopLemmas

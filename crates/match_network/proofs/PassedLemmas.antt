@@ -20,7 +20,7 @@ use Rattle.match_network.proofs.GivenLemmas.{within-is}
 use Rattle.match_network.proofs.TakeLemmas.{asks_so}
 
 -- the store that a condition element of a rule asks
-abbrev store_of : List (List ℕ) → ℕ → ℕ → Option ℕ
+abbrev pub store_of : List (List ℕ) → ℕ → ℕ → Option ℕ
 store_of stores rule condition = option_and_then (λ numbers. slice_get numbers condition) (slice_get stores rule)
 
 -- a condition element is due as often as its store was passed
@@ -127,6 +127,14 @@ all_due came places now place e alpha rules askers passed there held asked once 
         absurd (omega (arith, count asker None asks_none, some))
     by_rule asker (Some rule) is some = by_store asker rule (slice_get rule.stores asker.condition) is refl some
 
+-- each whose pattern it passes is due
+pub asked_is_due : (stores : List (List ℕ)) (askers : List (List Asker)) (e : Element) (alpha : List Store) (passed : List ℕ) → AreAskers stores askers → ArePassed e alpha passed → (number at : ℕ) (join : Join) (kept : Bool) (store : ℕ) → store_of stores number at ≡ Some store → Serves (without_entries join.pattern join.key kept) alpha store → passes join.pattern e ≡ true → list_any (is_asker number at) (flat_map (askers_at askers) passed) ≡ true
+asked_is_due stores askers e alpha passed asked once number at join kept store asks_it serves passed_it =
+    let has : has_at (admits e) alpha store ≡ true = admitted e alpha store join kept (slice_get alpha store) refl serves ∙ passed_it in
+    let one : ◌≡◌ {A = ℕ} (cond (has_at (admits e) alpha store) 1 0) 1 = ap (λ b. cond b 1 0) has in
+    any_counted (is_asker number at) (flat_map (askers_at askers) passed)
+    (omega (arith, due_count stores askers passed number at (Some store) asks_it asked, once.once store, one))
+
 -- and each that it passes is due
 pub passed_is_due : (came : List Element) (places : List ℕ) (e : Element) (alpha : List Store) (rules : List RuleRows) (askers : List (List Asker)) (passed : List ℕ) → AllByRecursion (IsRight came places alpha) rules → AreAskers (map (λ (rule : RuleRows). rule.stores) rules) askers → ArePassed e alpha passed → (number : ℕ) (rule : RuleRows) (at : ℕ) (join : Join) → slice_get rules number ≡ Some rule → slice_get rule.joins.positives at ≡ Some join → passes join.pattern e ≡ true → list_any (is_asker number at) (flat_map (askers_at askers) passed) ≡ true
 passed_is_due came places e alpha rules askers passed held asked once number rule at join rule_is join_is passed_it =
@@ -135,7 +143,4 @@ passed_is_due came places e alpha rules askers passed held asked once number rul
     let stores = map (λ (r : RuleRows). r.stores) rules in
     let asks_it : store_of stores number at ≡ Some found.0 =
     ap (λ o. option_and_then (λ numbers. slice_get numbers at) o) (slice_get-map (λ (r : RuleRows). r.stores) rules number ∙ ap (option_map (λ (r : RuleRows). r.stores)) rule_is) ∙ found.1 in
-    let has : has_at (admits e) alpha found.0 ≡ true = admitted e alpha found.0 join (nat_lt 0 at) (slice_get alpha found.0) refl found.2.serves ∙ passed_it in
-    let one : ◌≡◌ {A = ℕ} (cond (has_at (admits e) alpha found.0) 1 0) 1 = ap (λ b. cond b 1 0) has in
-    any_counted (is_asker number at) (flat_map (askers_at askers) passed)
-    (omega (arith, due_count stores askers passed number at (Some found.0) asks_it asked, once.once found.0, one))
+    asked_is_due stores askers e alpha passed asked once number at join (nat_lt 0 at) found.0 asks_it found.2.serves passed_it

@@ -39,7 +39,7 @@ pub record AreAskedTo (all : List Join) (count : ℕ) (alpha : List Store) (numb
 pub AreAskedTo-none : (all : List Join) (alpha : List Store) → AreAskedTo all 0 alpha []
 AreAskedTo-none all alpha = record { long = refl; each = λ at join lt there. absurd (omega (arith, lt)) }
 
-last_at : (numbers : List ℕ) (number : ℕ) → slice_get (numbers ++ number ∷ []) (length numbers) ≡ Some number
+pub last_at : (numbers : List ℕ) (number : ℕ) → slice_get (numbers ++ number ∷ []) (length numbers) ≡ Some number
 last_at [] number = refl
 last_at (first ∷ numbers) number = last_at numbers number
 
@@ -73,7 +73,7 @@ AreAskedTo-all all count alpha numbers le held at join there = held.each at join
     within (y ∷ xs) (suc i) x is = omega (arith, within xs i x is)
 
 -- bare stores serve while no element is there
-bare_at : (alpha : List Store) (number : ℕ) → AreBare alpha → entries_at alpha number ≡ []
+pub bare_at : (alpha : List Store) (number : ℕ) → AreBare alpha → entries_at alpha number ≡ []
 bare_at [] number bare = refl
 bare_at (store ∷ alpha) zero bare = bare.0
 bare_at (store ∷ alpha) (suc number) bare = bare_at alpha number bare.1

@@ -1,5 +1,5 @@
 -- One rule more, and elements that go.
-use Rattle.std.proofs.Common.{◌≡◌, inl, inr, ℕ, suc, ◌+◌, ◌<◌, List, [], ◌∷◌, ◌++◌, Bool, not, filter, length, map, Some, refl, ap, subst, sym, ◌∙◌, arith, slice_get, length-append}
+use Rattle.std.proofs.Common.{◌≡◌, inl, inr, ℕ, suc, ◌+◌, ◌<◌, List, [], ◌∷◌, ◌++◌, Bool, true, not, filter, length, map, Some, refl, ap, subst, sym, ◌∙◌, arith, slice_get, length-append}
 use Rattle.std.proofs.lemmas.Bool.{cases_eq}
 use Rattle.std.proofs.lemmas.List.{map-append}
 use Rattle.rule_base.specs.declared.element.Element.{Element}
@@ -10,23 +10,33 @@ use Rattle.alpha_memory.specs.Stores.{Store}
 use Rattle.match_network.specs.declared.askers.Asker.{Asker}
 use Rattle.match_network.specs.Arrivals.{Arrivals, has_tag, without_tag}
 use Rattle.match_network.specs.Conditions.{entries_at, joins_of, rows_of}
+use Rattle.match_network.specs.Negated.{AreNegatedServed, negated_in}
 use Rattle.match_network.specs.Network.{IsNetwork}
 use Rattle.match_network.specs.Rules.{AreAskers, AreBare, AreCompiled, GoesOn, IsAdded, IsRight, RuleRows}
 use Rattle.match_network.proofs.ComeLemmas.{slice_get-more}
 use Rattle.match_network.proofs.FilingLemmas.{levels_meet_removals, stores_meet_removals}
 use Rattle.match_network.proofs.GivenLemmas.{within-is}
 use Rattle.match_network.proofs.LevelLemmas.{places_may_go}
+use Rattle.match_network.proofs.NegatedLemmas.{IsServed-without, negated_goes_on, negated_over}
 use Rattle.match_network.proofs.RuleLemmas.{bare_right}
 
 all_there : (rules : List RuleRows) → length (map (λ (rule : RuleRows). rule.stores) rules) ≡ length rules
 all_there [] = refl
 all_there (rule ∷ rules) = ap suc (all_there rules)
 
-pub IsNetwork-push : (old new : List Store) (rules : List RuleRows) (rows : RuleRows) (askers more : List (List Asker)) → IsNetwork [] [] old rules askers → GoesOn old new → AreBare new → IsRight [] [] new rows → ((before : List (List ℕ)) → length before ≡ length rules → AreAskers before askers → AreAskers (before ++ rows.stores ∷ []) more) → IsNetwork [] [] new (rules ++ rows ∷ []) more
-IsNetwork-push old new rules rows askers more held goes_on bare right noted = record {
+all_there_negated : (rules : List RuleRows) → length (negated_in rules) ≡ length rules
+all_there_negated [] = refl
+all_there_negated (rule ∷ rules) = ap suc (all_there_negated rules)
+
+pub IsNetwork-push : (old new : List Store) (rules : List RuleRows) (rows : RuleRows) (askers more asks more_asks : List (List Asker)) → IsNetwork [] [] old rules askers asks → GoesOn old new → AreBare new → IsRight [] [] new rows → AreNegatedServed [] [] new rows → ((before : List (List ℕ)) → length before ≡ length rules → AreAskers before askers → AreAskers (before ++ rows.stores ∷ []) more) → ((before : List (List ℕ)) → length before ≡ length rules → AreAskers before asks → AreAskers (before ++ rows.negated ∷ []) more_asks) → IsNetwork [] [] new (rules ++ rows ∷ []) more more_asks
+IsNetwork-push old new rules rows askers more asks more_asks held goes_on bare right served noted noted_negated = record {
   right = Each-append (IsRight [] [] new) rules (rows ∷ []) (Each-weaker (IsRight [] [] old) (IsRight [] [] new) (λ rule was. bare_right old new rule goes_on bare was) rules held.right) (right, tt);
   askers_are = subst (λ stores. AreAskers stores more) (sym (map-append (λ (rule : RuleRows). rule.stores) rules (rows ∷ [])))
       (noted (map (λ (rule : RuleRows). rule.stores) rules) (all_there rules) held.askers_are);
+  negated_served = Each-append (AreNegatedServed [] [] new) rules (rows ∷ [])
+      (Each-weaker (AreNegatedServed [] [] old) (AreNegatedServed [] [] new) (λ rule was. negated_goes_on old new rule goes_on bare was) rules held.negated_served) (served, tt);
+  negated_askers_are = subst (λ stores. AreAskers stores more_asks) (sym (map-append (λ (rule : RuleRows). rule.negated) rules (rows ∷ [])))
+      (noted_negated (negated_in rules) (all_there_negated rules) held.negated_askers_are);
 }
 
 -- the first rules are compiled
@@ -64,8 +74,13 @@ pub AreCompiledTo-all : (rules : List Rule) (count : ℕ) (kept : List RuleRows)
 AreCompiledTo-all rules count kept all held = record { count = held.long ∙ all; each = held.each }
 
 -- with no rules, nobody asks
-pub IsNetwork-none : (alpha : List Store) → IsNetwork [] [] alpha [] []
-IsNetwork-none alpha = record { right = tt; askers_are = record { each = λ store rule condition. refl } }
+pub IsNetwork-none : (alpha : List Store) → IsNetwork [] [] alpha [] [] []
+IsNetwork-none alpha = record {
+  right = tt;
+  askers_are = record { each = λ store rule condition. refl };
+  negated_served = tt;
+  negated_askers_are = record { each = λ store rule condition. refl };
+}
 
 -- elements go
 pub IsRight-filter : (came : List Element) (places : List ℕ) (keep : ℕ → Bool) (alpha : List Store) (rule : RuleRows) → IsRight came places alpha rule → IsRight came (filter keep places) alpha rule
@@ -78,11 +93,14 @@ IsRight-filter came places keep alpha rule held = record {
   right = places_may_go (joins_of rule.joins.positives) came places keep (rows_of rule.levels) held.right;
 }
 
-pub IsNetwork-without : (old new : Arrivals) (tag : ℕ) (alpha : List Store) (rules : List RuleRows) (askers : List (List Asker)) → new ≡ without_tag old tag → IsNetwork old.came old.places alpha rules askers → IsNetwork new.came new.places alpha rules askers
-IsNetwork-without old new tag alpha rules askers is held =
-    subst (λ (a : Arrivals). IsNetwork a.came a.places alpha rules askers) (sym is)
+pub IsNetwork-without : (old new : Arrivals) (tag : ℕ) (alpha : List Store) (rules : List RuleRows) (askers asks : List (List Asker)) → new ≡ without_tag old tag → IsNetwork old.came old.places alpha rules askers asks → IsNetwork new.came new.places alpha rules askers asks
+IsNetwork-without old new tag alpha rules askers asks is held =
+    subst (λ (a : Arrivals). IsNetwork a.came a.places alpha rules askers asks) (sym is)
     (record {
       right = Each-weaker (IsRight old.came old.places alpha) (IsRight old.came (filter (λ p. not (has_tag old.came tag p)) old.places) alpha)
           (λ rule was. IsRight-filter old.came old.places (λ p. not (has_tag old.came tag p)) alpha rule was) rules held.right;
       askers_are = held.askers_are;
+      negated_served = negated_over old.came old.came old.places (filter (λ p. not (has_tag old.came tag p)) old.places) alpha alpha rules rules refl refl
+          (λ join number was. IsServed-without join true old.came old.places (λ p. not (has_tag old.came tag p)) alpha number was) held.negated_served;
+      negated_askers_are = held.negated_askers_are;
     })

@@ -20,4 +20,8 @@ pub mod FilingLaws
 pub mod Tried
 -- all rules
 pub mod Rules
+-- what stands in the way of a row
+pub mod Negated
+-- what an element that came has touched
+pub mod Touched
 pub mod Network

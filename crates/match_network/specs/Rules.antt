@@ -14,10 +14,12 @@ use Rattle.match_network.specs.Filed.{LevelRows, passes_at}
 use Rattle.match_network.specs.Levels.{AreLevels, AreWoven, OnlyAdds}
 use Rattle.alpha_memory.specs.Times.{times}
 
--- a rule: its joins, the numbers of the stores that serve its positive condition elements, and its levels
+-- a rule: its joins, the numbers of the stores that serve its positive condition elements and its negated ones, and its
+-- levels
 pub record RuleRows : Type 0 where
   pub joins : Joins
   pub stores : List ℕ
+  pub negated : List ℕ
   pub levels : List LevelRows
 
 -- what is kept of a rule is right for a memory
@@ -116,6 +118,7 @@ pub record IsStep (came : List Element) (places : List ℕ) (place : ℕ) (numbe
   pub is : new ≡ slice_set old number after
   pub joins : after.joins ≡ before.joins
   pub stores : after.stores ≡ before.stores
+  pub negated : after.negated ≡ before.negated
   pub adds : OnlyAdds came place (rows_of before.levels) (rows_of after.levels)
   pub filed : AreFiled before.joins.positives came places after.levels
   pub cleaned : AreCleaned places alpha more

@@ -7,14 +7,14 @@ ghost use Rattle.match_network.specs.Rules.{AreAskers, askers_at};
 use ops_text::{OutOfMemory, Sequence};
 use std::alloc::Global;
 
-/// A positive condition element of a rule, by their numbers from 0.
+/// A condition element of a rule, by their numbers from 0. Positive and negated ones are counted apart.
 #[derive(Clone, Copy)]
-pub(crate) struct Asker {
-    pub(crate) rule: usize,
-    pub(crate) condition: usize,
+pub struct Asker {
+    pub rule: usize,
+    pub condition: usize,
 }
 
-/// Notes all positive condition elements of a rule, each with the store that it asks.
+/// Notes all positive condition elements of a rule, or all negated ones, each with the store that it asks.
 pub(crate) fn note_all(
     alloc: Global,
     rule: usize,

@@ -6,6 +6,7 @@ ghost use Rattle.rule_base.specs.Memory.{Rises};
 ghost use Rattle.match_network.specs.Conditions.{joins_of, rows_of};
 ghost use Rattle.match_network.specs.Rules.{AreStopped, AreWovenIn, IsDue, IsKept, IsStep, RuleRows, is_asker};
 ghost use Rattle.alpha_memory.specs.Times.{times};
+ghost use Rattle.match_network.specs.Touched.{AreTouched};
 ghost use Rattle.match_network.specs.Woven.{woven};
 
 use crate::askers::Asker;
@@ -32,6 +33,7 @@ pub(crate) fn weave_all<L: Ledger>(
     requires start { AreWovenIn arrivals.now.came arrivals.now.places place alpha.old [] rules.old rules.old }
     ensures ok { OnOk result (AreWovenIn arrivals.now.came arrivals.now.places place alpha.new due.now rules.old rules.new) }
     ensures stopped { AreStopped arrivals.now.came arrivals.now.places place alpha.new rules.old rules.new }
+    ensures touched { AreTouched arrivals.now.places due.now alpha.old alpha.new rules.old rules.new }
 {
     for number in 0..due.len() {
         weave_at(due[number], place, arrivals, alpha, rules, steps)?;

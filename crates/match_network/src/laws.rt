@@ -2,6 +2,7 @@
 
 ghost use Rattle.match_network.specs.FilingLaws.{LevelsMayBePacked, LevelsMeetArrivals, LevelsMeetRemovals, StoresMayBePacked, StoresMeetArrivals, StoresMeetRemovals};
 ghost use Rattle.match_network.specs.Laws.{AddingGoesOn, DeadMayGo, PlacesMayGo, WeavingBegins, WeavingEnds, WeavingGoesOn, WeavingMayStop};
+ghost use Rattle.match_network.specs.Negated.{BlockedIsNotFree};
 
 /// Weaving a place in at each condition element where its element may join, in any order and once at
 /// each, makes levels of the memory with it from those of the memory without it.
@@ -27,4 +28,9 @@ pub fn what_is_filed_stays_right()
     ensures store_removals { StoresMeetRemovals }
     ensures packing { LevelsMayBePacked }
     ensures store_packing { StoresMayBePacked }
+{}
+
+/// What `blocker` tells of is in the way: with it in working memory, the row isn't free.
+pub fn blocked_rows_are_not_free()
+    ensures { BlockedIsNotFree }
 {}

@@ -7,6 +7,7 @@ mod askers;
 mod due;
 pub mod laws;
 mod level;
+mod negated;
 mod network;
 mod row_view;
 mod rows;
@@ -16,6 +17,7 @@ mod stage;
 mod weaving;
 
 pub use arrivals::Arrivals;
+pub use askers::Asker;
 pub use level::Level;
 pub use network::Network;
 pub use rows::Rows;

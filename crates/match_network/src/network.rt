@@ -1,25 +1,30 @@
 //! The match network of a program's rules.
 
-ghost use Rattle.std.specs.Prelude.{◌≡◌, ◌+◌, ◌<◌, ◌≤◌, ◌⊎◌, [], ◌∷◌, ◌++◌, IfOk, OnErr, OnOk, Some, length, slice_get};
-ghost use Rattle.std.specs.List.{AllByRecursion};
+ghost use Rattle.std.specs.Prelude.{◌≡◌, ℕ, ◌+◌, ◌<◌, ◌≤◌, ◌⊎◌, [], ◌∷◌, ◌++◌, IfOk, IfSome, List, MatchOption, None, OnErr, OnOk, Some, false, length, slice_get, true};
+ghost use Rattle.std.specs.List.{AllByRecursion, list_all, list_any};
 ghost use Rattle.rule_base.specs.declared.element.Element.{Element};
+ghost use Rattle.rule_base.specs.Numbers.{has_number};
 ghost use Rattle.rule_base.specs.Views.{element_in};
-ghost use Rattle.match_network.specs.Arrivals.{with_arrival, without_tag};
+ghost use Rattle.join_tests.specs.Meaning.{is_free};
+ghost use Rattle.match_network.specs.Arrivals.{has_tag, with_arrival, without_tag};
 ghost use Rattle.match_network.specs.Conditions.{joins_of, rows_of};
 ghost use Rattle.match_network.specs.Levels.{AreLevels};
+ghost use Rattle.match_network.specs.Negated.{IsWholeRow, blockers_tried, blocks, whole_rows};
 ghost use Rattle.match_network.specs.Network.{joins_in};
-ghost use Rattle.match_network.specs.Rules.{AreCompiled};
+ghost use Rattle.match_network.specs.Row.{elements_of};
+ghost use Rattle.match_network.specs.Rules.{AreCompiled, RuleRows};
+ghost use Rattle.match_network.specs.Touched.{AllGrow, AreNegatedDue, OthersStay};
 
 use crate::rule_set::RuleSet;
-use crate::{Arrivals, RuleLevels};
+use crate::{Arrivals, Asker, RuleLevels};
 use ops_text::OutOfMemory;
 use rule_base::{ElementView, Rule, Steps};
 use std::alloc::Global;
 use std::marker::Model;
 use std::sync::ledger::Ledger;
 
-/// The elements that came, and for each rule the partial matches of those in working memory. It looks at
-/// no negated condition elements.
+/// The elements that came, and for each rule the partial matches of those in working memory, which look
+/// at positive condition elements alone. What stands in the way of a match is told by `blocker`.
 #[derive(Drop)]
 pub struct Network {
     arrivals: Arrivals,
@@ -31,9 +36,9 @@ impl Model for Network {
 
     ghost Value = { Network };
 
-    ghost view = { λ n. record { arrivals = n.arrivals; rules = n.set.rules.items } };
+    ghost view = { λ n. record { arrivals = n.arrivals; rules = n.set.rules.items; due = n.set.due.items; negated_due = n.set.negated_due.items } };
 
-    ghost invariant = { λ n. IsNetwork n.arrivals.came n.arrivals.places n.set.alpha n.set.rules.items n.set.askers.items };
+    ghost invariant = { λ n. IsNetwork n.arrivals.came n.arrivals.places n.set.alpha n.set.rules.items n.set.askers.items n.set.negated_askers.items };
 }
 
 impl Network {
@@ -61,6 +66,11 @@ impl Network {
         ensures err { OnErr result (self.new.arrivals.places ≡ self.old.arrivals.places) }
         ensures joins { joins_in self.new.rules ≡ joins_in self.old.rules }
 
+        // Whom it touched: all other rules are as before, and levels got only rows with its place.
+        ensures touched { OthersStay self.new.due self.old.rules self.new.rules }
+        ensures grows { AllGrow self.new.arrivals.came (length self.old.arrivals.came) self.old.rules self.new.rules }
+        ensures negated_due { OnOk result (AreNegatedDue (element_in element.entry) self.new.rules self.new.negated_due) }
+
         // After want of memory the element may have come, and be dead.
         ensures came { OnErr result ((self.new.arrivals.came ≡ self.old.arrivals.came)
             ⊎ (self.new.arrivals.came ≡ self.old.arrivals.came ++ element_in element.entry ∷ [])) }
@@ -73,15 +83,42 @@ impl Network {
         Ok(())
     }
 
-    /// Takes the element with this tag out of working memory, if it is there. Its rows stay, as dead ones.
-    /// It takes no memory, and a time that grows with the logarithm of the tags that are missing between
-    /// the first one and this one.
-    pub fn remove<L: Ledger>(&mut self, tag: u64, steps: &mut Steps<L>)
+    /// The place of an element in working memory that stands in the way of a partial match for all positive
+    /// condition elements, if there is one: the rule's row with this number, as `rule` tells it. Where there
+    /// is none, and the row's elements are in working memory, the rule matches. It counts a step for each
+    /// element that agrees with the row in the key of a negated condition element, and takes no memory.
+    pub fn blocker<L: Ledger>(
+        &mut self,
+        rule: usize,
+        row: usize,
+        steps: &mut Steps<L>,
+    ) -> Option<u32>
+        requires rule { rule < length self.old.rules }
+        requires row { (kept : RuleRows) → slice_get self.old.rules rule ≡ Some kept → row < length (whole_rows kept) }
+        ensures there { IfSome result (λ place. has_number self.old.arrivals.places place ≡ true) }
+        ensures blocks { IfSome result (λ place. (kept : RuleRows) (those : List ℕ) → IsWholeRow self.old.rules rule row kept those
+            → blocks kept.joins self.old.arrivals.came those place ≡ true) }
+        ensures none { result ≡ None → (kept : RuleRows) (those : List ℕ) → IsWholeRow self.old.rules rule row kept those
+            → list_all (is_free (elements_of self.old.arrivals.came self.old.arrivals.places) (elements_of self.old.arrivals.came those)) kept.joins.negated ≡ true }
+        ensures same { self.new ≡ self.old }
+        ensures steps { (kept : RuleRows) (those : List ℕ) → IsWholeRow self.old.rules rule row kept those
+            → steps.new ≤ steps.old + blockers_tried kept.joins.negated self.old.arrivals.came self.old.arrivals.places those }
+    {
+        let kept = &self.set.rules[rule];
+        kept.blocker(row, &self.arrivals, &mut self.set.alpha, steps)
+    }
+
+    /// Takes the element with this tag out of working memory, and tells its place, if it is there. Its rows
+    /// stay, as dead ones. It takes no memory, and a time that grows with the logarithm of the tags that are
+    /// missing between the first one and this one.
+    pub fn remove<L: Ledger>(&mut self, tag: u64, steps: &mut Steps<L>) -> Option<u32>
+        ensures found { MatchOption result (list_any (has_tag self.old.arrivals.came tag) self.old.arrivals.places ≡ false)
+            (λ place. (has_number self.old.arrivals.places place ≡ true) × (has_tag self.old.arrivals.came tag place ≡ true)) }
         ensures arrivals { self.new.arrivals ≡ without_tag self.old.arrivals tag }
         ensures rules { self.new.rules ≡ self.old.rules }
         ensures steps { steps.new ≤ steps.old + 2 }
     {
-        self.arrivals.remove(tag, steps);
+        self.arrivals.remove(tag, steps)
     }
 
     /// How many rules there are.
@@ -99,6 +136,27 @@ impl Network {
         ensures right { AreLevels (joins_of result.now.joins.positives) self.now.arrivals.came self.now.arrivals.places (rows_of result.now.levels) }
     {
         &self.set.rules[number]
+    }
+
+    /// What is kept of each rule is right, as `rule` tells of one. It does nothing.
+    pub fn all_are_right(&self)
+        ensures right { (number : ℕ) (kept : RuleRows) → slice_get self.now.rules number ≡ Some kept
+            → AreLevels (joins_of kept.joins.positives) self.now.arrivals.came self.now.arrivals.places (rows_of kept.levels) }
+    {}
+
+    /// The positive condition elements that the last element passed, each once. Their rules alone were
+    /// touched.
+    pub fn due(&self) -> &[Asker]
+        ensures { result.now ≡ self.now.due }
+    {
+        self.set.due.as_slice()
+    }
+
+    /// The negated condition elements that the last element passed, each once.
+    pub fn negated_due(&self) -> &[Asker]
+        ensures { result.now ≡ self.now.negated_due }
+    {
+        self.set.negated_due.as_slice()
     }
 
     /// The elements that came, and which of them are in working memory.

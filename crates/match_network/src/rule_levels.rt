@@ -1,30 +1,35 @@
 //! What the network keeps of one rule.
 
-ghost use Rattle.std.specs.Prelude.{◌≡◌, ℕ, ◌<◌, [], IfOk, IfSome, None, OnErr, OnOk, Some, length, slice_get, true};
-ghost use Rattle.std.specs.List.{AllByRecursion, list_any};
+ghost use Rattle.std.specs.Prelude.{◌≡◌, ℕ, ◌+◌, ◌<◌, ◌≤◌, [], IfOk, IfSome, List, None, OnErr, OnOk, Some, length, slice_get, true};
+ghost use Rattle.std.specs.List.{AllByRecursion, list_all, list_any};
+ghost use Rattle.rule_base.specs.Numbers.{has_number};
 ghost use Rattle.join_tests.specs.declared.joins.Join.{Join};
-ghost use Rattle.join_tests.specs.Meaning.{IsCompiled};
+ghost use Rattle.join_tests.specs.Meaning.{IsCompiled, is_free};
 ghost use Rattle.match_network.specs.Conditions.{AreCleaned, AreFiled, AreStores, joins_of, level_at, rows_of};
 ghost use Rattle.match_network.specs.Filed.{passes_at};
-ghost use Rattle.match_network.specs.Levels.{OnlyAdds};
+ghost use Rattle.match_network.specs.Levels.{HaveCome, OnlyAdds};
+ghost use Rattle.match_network.specs.Negated.{AreNegatedAsked, AreNegatedServed, blockers_tried, blocks, whole_rows};
+ghost use Rattle.match_network.specs.Row.{elements_of};
 ghost use Rattle.match_network.specs.Rules.{AreAsked, AreBare, GoesOn, IsRight, IsStopped, IsWoven};
 ghost use Rattle.match_network.specs.Woven.{woven};
 
+use crate::negated::find_blocker;
 use crate::{Arrivals, Conditions, Level, Rows, new_levels, weave};
 use alpha_memory::AlphaMemory;
-use join_tests::{Join, Joins};
+use join_tests::{Join, Joins, Negated};
 use ops_text::{OutOfMemory, Sequence};
 use rule_base::{Rule, Steps};
 use std::alloc::Global;
 use std::marker::Model;
 use std::sync::ledger::Ledger;
 
-/// A rule's joins, the numbers of the stores that serve its positive condition elements, and a level for
-/// each of those.
+/// A rule's joins, the numbers of the stores that serve its positive condition elements and its negated
+/// ones, and a level for each of the positive.
 #[derive(Drop)]
 pub struct RuleLevels {
     joins: Joins,
     stores: Sequence<u32>,
+    negated: Sequence<u32>,
     levels: Vec<Level>,
 }
 
@@ -33,7 +38,7 @@ impl Model for RuleLevels {
 
     ghost Value = { RuleRows };
 
-    ghost view = { λ r. record { joins = r.joins; stores = r.stores; levels = r.levels.items } };
+    ghost view = { λ r. record { joins = r.joins; stores = r.stores; negated = r.negated; levels = r.levels.items } };
 }
 
 impl RuleLevels {
@@ -46,15 +51,18 @@ impl RuleLevels {
         requires { AreBare alpha.old }
         ensures compiled { IfOk result (λ rows. IsCompiled rule.now rows.joins) }
         ensures right { IfOk result (IsRight [] [] alpha.new) }
+        ensures negated_right { IfOk result (AreNegatedServed [] [] alpha.new) }
         ensures bare { AreBare alpha.new }
         ensures serve { GoesOn alpha.old alpha.new }
     {
         let joins = Joins::compile(alloc, rule)?;
         let stores = ask_all(alloc, joins.positives.as_slice(), alpha)?;
+        let negated = ask_negated(alloc, joins.negated.as_slice(), alpha)?;
         let levels = new_levels(alloc, joins.positives.as_slice())?;
         Ok(RuleLevels {
             joins,
             stores,
+            negated,
             levels,
         })
     }
@@ -64,6 +72,13 @@ impl RuleLevels {
         ensures { result.now ≡ self.now.stores }
     {
         self.stores.as_slice()
+    }
+
+    /// The numbers of the stores that serve the negated condition elements, in order.
+    pub(crate) fn negated(&self) -> &[u32]
+        ensures { result.now ≡ self.now.negated }
+    {
+        self.negated.as_slice()
     }
 
     /// The rows for all positive condition elements, and among them some whose elements aren't in working
@@ -77,6 +92,47 @@ impl RuleLevels {
             Some(level) => Some(level.rows()),
             None => None,
         }
+    }
+
+    /// The row with this number, for all positive condition elements.
+    fn whole_row(&self, number: usize) -> &[u32]
+        requires { number < length (whole_rows self.now) }
+        ensures { slice_get (whole_rows self.now) number ≡ Some result.now }
+    {
+        match self.rows() {
+            Some(rows) => rows.at(number),
+            None => &[],
+        }
+    }
+
+    /// The place of an element in working memory that stands in the way of the whole row with this number,
+    /// if there is one.
+    pub(crate) fn blocker<L: Ledger>(
+        &self,
+        number: usize,
+        arrivals: &Arrivals,
+        alpha: &mut AlphaMemory,
+        steps: &mut Steps<L>,
+    ) -> Option<u32>
+        requires number { number < length (whole_rows self.now) }
+        requires come { AllByRecursion (HaveCome arrivals.now.came) (whole_rows self.now) }
+        requires served { AreNegatedServed arrivals.now.came arrivals.now.places alpha.old self.now }
+        ensures there { IfSome result (λ place. has_number arrivals.now.places place ≡ true) }
+        ensures blocks { IfSome result (λ place. (row : List ℕ) → slice_get (whole_rows self.now) number ≡ Some row → blocks self.now.joins arrivals.now.came row place ≡ true) }
+        ensures none { result ≡ None → (row : List ℕ) → slice_get (whole_rows self.now) number ≡ Some row
+            → list_all (is_free (elements_of arrivals.now.came arrivals.now.places) (elements_of arrivals.now.came row)) self.now.joins.negated ≡ true }
+        ensures cleaned { AreCleaned arrivals.now.places alpha.old alpha.new }
+        ensures steps { (row : List ℕ) → slice_get (whole_rows self.now) number ≡ Some row
+            → steps.new ≤ steps.old + blockers_tried self.now.joins.negated arrivals.now.came arrivals.now.places row }
+    {
+        find_blocker(
+            self.joins.negated.as_slice(),
+            self.negated.as_slice(),
+            self.whole_row(number),
+            arrivals,
+            alpha,
+            steps,
+        )
     }
 
     /// Weaves a place in at a positive condition element.
@@ -97,6 +153,7 @@ impl RuleLevels {
             ≡ woven (joins_of self.old.joins.positives) arrivals.now.came arrivals.now.places place at (rows_of self.old.levels) width) }
         ensures joins { self.new.joins ≡ self.old.joins }
         ensures same_stores { self.new.stores ≡ self.old.stores }
+        ensures same_negated { self.new.negated ≡ self.old.negated }
         ensures adds { OnlyAdds arrivals.now.came place (rows_of self.old.levels) (rows_of self.new.levels) }
         ensures filed { AreFiled self.old.joins.positives arrivals.now.came arrivals.now.places self.new.levels }
         ensures cleaned { AreCleaned arrivals.now.places alpha.old alpha.new }
@@ -134,6 +191,27 @@ fn ask_all(
     for number in 0..joins.len() {
         let join = &joins[number];
         let store = alpha.ask(alloc, &join.pattern, join.key.as_slice(), number > 0)?;
+        stores.push(store)?;
+    }
+    Ok(stores)
+}
+
+/// Asks a store for each negated condition element. Rows look for all of their elements, so each store
+/// keeps them.
+fn ask_negated(
+    alloc: Global,
+    negated: &[Negated],
+    alpha: &mut AlphaMemory,
+) -> Result<Sequence<u32>, OutOfMemory>
+    requires { AreBare alpha.old }
+    ensures asked { IfOk result (AreNegatedAsked negated.now alpha.new) }
+    ensures bare { AreBare alpha.new }
+    ensures serve { GoesOn alpha.old alpha.new }
+{
+    let mut stores = Sequence::new(alloc);
+    for number in 0..negated.len() {
+        let one = &negated[number];
+        let store = alpha.ask(alloc, &one.join.pattern, one.join.key.as_slice(), true)?;
         stores.push(store)?;
     }
     Ok(stores)

@@ -6,6 +6,7 @@ ghost use Rattle.rule_base.specs.Views.{element_in};
 ghost use Rattle.alpha_memory.specs.Stores.{AreFiledOrNot, filed};
 ghost use Rattle.match_network.specs.Network.{IsBefore, IsNetwork, joins_in, other_than};
 ghost use Rattle.match_network.specs.Rules.{AreAllDue, AreBare, AreCompiled, IsAdded};
+ghost use Rattle.match_network.specs.Touched.{AllGrow, AreNegatedDue, OthersStay};
 
 use crate::askers::{Asker, collect, note_all};
 use crate::due::weave_all;
@@ -21,25 +22,30 @@ use std::sync::ledger::Ledger;
 pub(crate) struct RuleSet {
     pub(crate) alpha: AlphaMemory,
     pub(crate) rules: Vec<RuleLevels>,
-    /// By the number of a store, the condition elements that ask it.
+    /// By the number of a store, the positive condition elements that ask it, and the negated ones.
     pub(crate) askers: Vec<Sequence<Asker>>,
-    /// Room for the numbers of the stores that an element passes, and for those who ask them.
+    pub(crate) negated_askers: Vec<Sequence<Asker>>,
+    /// Room for the numbers of the stores that an element passes.
     passed: Vec<u32>,
-    due: Vec<Asker>,
+    /// Those who ask the stores that the last element passed.
+    pub(crate) due: Vec<Asker>,
+    pub(crate) negated_due: Vec<Asker>,
 }
 
 impl RuleSet {
     /// Compiles rules, and asks for their stores. There are no elements.
     pub(crate) fn new(alloc: Global, rules: &[Rule]) -> Result<RuleSet, OutOfMemory>
         ensures compiled { IfOk result (λ set. AreCompiled rules.now set.rules.items) }
-        ensures right { IfOk result (λ set. IsNetwork [] [] set.alpha set.rules.items set.askers.items) }
+        ensures right { IfOk result (λ set. IsNetwork [] [] set.alpha set.rules.items set.askers.items set.negated_askers.items) }
     {
         let mut set = RuleSet {
             alpha: AlphaMemory::new(alloc),
             rules: Vec::new(alloc),
             askers: Vec::new(alloc),
+            negated_askers: Vec::new(alloc),
             passed: Vec::new(alloc),
             due: Vec::new(alloc),
+            negated_due: Vec::new(alloc),
         };
         for number in 0..rules.len() {
             set.push(alloc, &rules[number])?;
@@ -50,14 +56,15 @@ impl RuleSet {
     /// Adds a rule.
     fn push(&mut self, alloc: Global, rule: &Rule) -> Result<(), OutOfMemory>
         requires bare { AreBare self.old.alpha }
-        requires right { IsNetwork [] [] self.old.alpha self.old.rules.items self.old.askers.items }
+        requires right { IsNetwork [] [] self.old.alpha self.old.rules.items self.old.askers.items self.old.negated_askers.items }
         ensures bare { OnOk result (AreBare self.new.alpha) }
-        ensures right { OnOk result (IsNetwork [] [] self.new.alpha self.new.rules.items self.new.askers.items) }
+        ensures right { OnOk result (IsNetwork [] [] self.new.alpha self.new.rules.items self.new.askers.items self.new.negated_askers.items) }
         ensures added { OnOk result (IsAdded rule.now self.old.rules.items self.new.rules.items) }
     {
         let number = self.rules.len();
         let levels = RuleLevels::new(alloc, rule, &mut self.alpha)?;
         note_all(alloc, number, levels.stores(), &mut self.askers)?;
+        note_all(alloc, number, levels.negated(), &mut self.negated_askers)?;
         self.rules.push(levels)?;
         Ok(())
     }
@@ -70,10 +77,13 @@ impl RuleSet {
         arrivals: &Arrivals,
         steps: &mut Steps<L>,
     ) -> Result<(), OutOfMemory>
-        requires { IsBefore arrivals.now (element_in element) place self.old.alpha self.old.rules.items self.old.askers.items }
-        ensures ok { OnOk result (IsNetwork arrivals.now.came arrivals.now.places self.new.alpha self.new.rules.items self.new.askers.items) }
-        ensures err { OnErr result (IsNetwork arrivals.now.came (filter (other_than place) arrivals.now.places) self.new.alpha self.new.rules.items self.new.askers.items) }
+        requires { IsBefore arrivals.now (element_in element) place self.old.alpha self.old.rules.items self.old.askers.items self.old.negated_askers.items }
+        ensures ok { OnOk result (IsNetwork arrivals.now.came arrivals.now.places self.new.alpha self.new.rules.items self.new.askers.items self.new.negated_askers.items) }
+        ensures err { OnErr result (IsNetwork arrivals.now.came (filter (other_than place) arrivals.now.places) self.new.alpha self.new.rules.items self.new.askers.items self.new.negated_askers.items) }
         ensures joins { joins_in self.new.rules.items ≡ joins_in self.old.rules.items }
+        ensures touched { OthersStay self.new.due.items self.old.rules.items self.new.rules.items }
+        ensures grows { AllGrow arrivals.now.came place self.old.rules.items self.new.rules.items }
+        ensures negated_due { OnOk result (AreNegatedDue (element_in element) self.new.rules.items self.new.negated_due.items) }
     {
         self.find_due(place, element)?;
         weave_all(
@@ -90,17 +100,25 @@ impl RuleSet {
     fn find_due(&mut self, place: u32, element: ElementView<'_>) -> Result<(), OutOfMemory>
         ensures filed { OnOk result (self.new.alpha ≡ map (filed place (element_in element.entry)) self.old.alpha) }
         ensures due { OnOk result (AreAllDue (element_in element.entry) self.old.alpha self.old.askers.items self.new.due.items) }
+        ensures negated_due { OnOk result (AreAllDue (element_in element.entry) self.old.alpha self.old.negated_askers.items self.new.negated_due.items) }
         ensures err { OnErr result (AreFiledOrNot place (element_in element.entry) self.old.alpha self.new.alpha) }
         ensures rules { self.new.rules ≡ self.old.rules }
         ensures askers { self.new.askers ≡ self.old.askers }
+        ensures negated_askers { self.new.negated_askers ≡ self.old.negated_askers }
     {
         self.passed.clear();
         self.due.clear();
+        self.negated_due.clear();
         self.alpha.file(place, element, &mut self.passed)?;
         collect(
             self.askers.as_slice(),
             self.passed.as_slice(),
             &mut self.due,
+        )?;
+        collect(
+            self.negated_askers.as_slice(),
+            self.passed.as_slice(),
+            &mut self.negated_due,
         )
     }
 }

@@ -57,7 +57,12 @@ fn has_place(row: &[u32], place: u32) -> bool
 }
 
 /// Whether the element at a place agrees with those of a row.
-fn agrees_at<L: Ledger>(stage: &Stage<'_>, row: &[u32], place: u32, steps: &mut Steps<L>) -> bool
+pub(crate) fn agrees_at<L: Ledger>(
+    stage: &Stage<'_>,
+    row: &[u32],
+    place: u32,
+    steps: &mut Steps<L>,
+) -> bool
     requires come { HaveCome stage.now.arrivals.now.came row.now }
     requires place { place < length stage.now.arrivals.now.came }
     ensures answer { result ≡ agrees_at stage.now.join.now stage.now.arrivals.now.came row.now place }

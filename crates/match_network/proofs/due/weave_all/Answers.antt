@@ -7,6 +7,7 @@ use Rattle.match_network.specs.Rules.{AreWovenIn, IsDue}
 use Rattle.match_network.proofs.ComeLemmas.{slice_get-here, some_at}
 use Rattle.match_network.proofs.DueLemmas.{due_now, kept_now, not_before, stopped_at, woven_more}
 use Rattle.match_network.proofs.GivenLemmas.{within-is}
+use Rattle.match_network.proofs.TouchedLemmas.{touched_more, touched_none}
 use Rattle.match_network.proofs.due.weave_all.Goals as goal
 
 abbrev none : Asker
@@ -20,9 +21,9 @@ weave_at-requires-clause-due g c =
     let asker = get_or due l.number none in
     let lt : l.number < length due = omega (arith, c.loop-number-test.true) in
     let at = Each-slice_get (IsDue a.came c.args.place c.args.rules.now) due l.number asker c.requires.due (slice_get-here due l.number asker lt (get_or_default due l.number none asker lt)) in
-    let within : asker.rule < length l.rules = omega (arith, within-is c.args.rules.now asker.rule at.rule at.rule_is, l.invariant.count) in
+    let within : asker.rule < length l.rules = omega (arith, within-is c.args.rules.now asker.rule at.rule at.rule_is, l.invariant.woven.count) in
     let this = some_at l.rules asker.rule within in
-    due_now a.came a.places c.args.place l.alpha (take l.number due) asker c.args.rules.now l.rules l.invariant at this.item this.is
+    due_now a.came a.places c.args.place l.alpha (take l.number due) asker c.args.rules.now l.rules l.invariant.woven at this.item this.is
 
 pub weave_at-requires-clause-kept : goal.weave_at-requires-clause-kept
 weave_at-requires-clause-kept g c rule there =
@@ -32,13 +33,29 @@ weave_at-requires-clause-kept g c rule there =
     let asker = get_or due l.number none in
     let lt : l.number < length due = omega (arith, c.loop-number-test.true) in
     let at = Each-slice_get (IsDue a.came c.args.place c.args.rules.now) due l.number asker c.requires.due (slice_get-here due l.number asker lt (get_or_default due l.number none asker lt)) in
-    kept_now a.came a.places c.args.place l.alpha (take l.number due) asker c.args.rules.now l.rules l.invariant at rule there
+    kept_now a.came a.places c.args.place l.alpha (take l.number due) asker c.args.rules.now l.rules l.invariant.woven at rule there
 
 pub returns-in_err-weave_at-clause-stopped : goal.returns-in_err-weave_at-clause-stopped
 returns-in_err-weave_at-clause-stopped g c =
     let a = c.args.arrivals.now in
     let l = c.loop-number in
-    stopped_at a.came a.places c.args.place l.alpha c.weave_at.new.alpha (take l.number c.args.due.now) (get_or c.args.due.now l.number none).rule c.args.rules.now l.rules c.weave_at.new.rules c.in_err-weave_at.ensures.step l.invariant
+    stopped_at a.came a.places c.args.place l.alpha c.weave_at.new.alpha (take l.number c.args.due.now) (get_or c.args.due.now l.number none).rule c.args.rules.now l.rules c.weave_at.new.rules c.in_err-weave_at.ensures.step l.invariant.woven
+
+pub returns-in_err-weave_at-clause-touched : goal.returns-in_err-weave_at-clause-touched
+returns-in_err-weave_at-clause-touched g c =
+    let a = c.args.arrivals.now in
+    let l = c.loop-number in
+    let due = c.args.due.now in
+    let asker = get_or due l.number none in
+    let lt : l.number < length due = omega (arith, c.loop-number-test.true) in
+    touched_more a.came a.places c.args.place c.args.alpha.now l.alpha c.weave_at.new.alpha due l.number asker c.args.rules.now l.rules c.weave_at.new.rules
+    (slice_get-here due l.number asker lt (get_or_default due l.number none asker lt)) c.in_err-weave_at.ensures.step l.invariant.touched
+
+pub loop-number-init : goal.loop-number-init
+loop-number-init g c = record {
+  woven = c.requires.start;
+  touched = touched_none c.args.arrivals.now.places c.args.due.now c.args.alpha.now c.args.rules.now;
+}
 
 pub loop-number-preserved : goal.loop-number-preserved
 loop-number-preserved g c =
@@ -48,6 +65,10 @@ loop-number-preserved g c =
     let asker = get_or due l.number none in
     let lt : l.number < length due = omega (arith, c.loop-number-test.true) in
     let fresh = not_before due l.number asker lt (get_or_default due l.number none asker lt) (c.requires.once asker.rule asker.condition) in
-    subst (λ (done : List Asker). AreWovenIn a.came a.places c.args.place c.weave_at.new.alpha done c.args.rules.now c.weave_at.new.rules) (sym (take_more due l.number none lt))
-    (woven_more a.came a.places c.args.place l.alpha c.weave_at.new.alpha (take l.number due) asker c.args.rules.now l.rules c.weave_at.new.rules
-    c.requires.rising c.requires.below c.requires.place fresh c.in_ok-weave_at.ensures.step c.in_ok-weave_at.ensures.ok l.invariant)
+    record {
+      woven = subst (λ (done : List Asker). AreWovenIn a.came a.places c.args.place c.weave_at.new.alpha done c.args.rules.now c.weave_at.new.rules) (sym (take_more due l.number none lt))
+          (woven_more a.came a.places c.args.place l.alpha c.weave_at.new.alpha (take l.number due) asker c.args.rules.now l.rules c.weave_at.new.rules
+          c.requires.rising c.requires.below c.requires.place fresh c.in_ok-weave_at.ensures.step c.in_ok-weave_at.ensures.ok l.invariant.woven);
+      touched = touched_more a.came a.places c.args.place c.args.alpha.now l.alpha c.weave_at.new.alpha due l.number asker c.args.rules.now l.rules c.weave_at.new.rules
+          (slice_get-here due l.number asker lt (get_or_default due l.number none asker lt)) c.in_ok-weave_at.ensures.step l.invariant.touched;
+    }
