@@ -1,6 +1,6 @@
 //! The match network of a program's rules.
 
-ghost use Rattle.std.specs.Prelude.{◌≡◌, ℕ, ◌+◌, ◌<◌, ◌≤◌, ◌⊎◌, [], ◌∷◌, ◌++◌, IfOk, IfSome, List, MatchOption, None, OnErr, OnOk, Some, false, length, slice_get, true};
+ghost use Rattle.std.specs.Prelude.{◌≡◌, ◌==◌, ℕ, ◌+◌, ◌<◌, ◌≤◌, ◌⊎◌, [], ◌∷◌, ◌++◌, IfOk, IfSome, List, MatchOption, None, OnErr, OnOk, Some, false, length, slice_get, true};
 ghost use Rattle.std.specs.List.{AllByRecursion, list_all, list_any};
 ghost use Rattle.rule_base.specs.declared.element.Element.{Element};
 ghost use Rattle.rule_base.specs.Numbers.{has_number};
@@ -142,7 +142,18 @@ impl Network {
     pub fn all_are_right(&self)
         ensures right { (number : ℕ) (kept : RuleRows) → slice_get self.now.rules number ≡ Some kept
             → AreLevels (joins_of kept.joins.positives) self.now.arrivals.came self.now.arrivals.places (rows_of kept.levels) }
+        ensures levels { (number : ℕ) (kept : RuleRows) → slice_get self.now.rules number ≡ Some kept → length kept.levels ≡ length kept.joins.positives }
     {}
+
+    /// The place of the element with this tag in working memory, if it is there. It takes as much time as
+    /// `remove`.
+    pub fn place_of(&self, tag: u64) -> Option<u32>
+        ensures found { MatchOption result (list_any (has_tag self.now.arrivals.came tag) self.now.arrivals.places ≡ false)
+            (λ place. (has_number self.now.arrivals.places place ≡ true) × (has_tag self.now.arrivals.came tag place ≡ true)) }
+        ensures only { IfSome result (λ place. (other : ℕ) → has_tag self.now.arrivals.came tag other ≡ (other == place)) }
+    {
+        self.arrivals.place_of(tag)
+    }
 
     /// The positive condition elements that the last element passed, each once. Their rules alone were
     /// touched.
