@@ -4,3 +4,7 @@ pub mod WaiterLemmas
 pub mod StandingLemmas
 -- who is in the queue
 pub mod QueueLemmas
+-- full rows, as elements come and go
+pub mod RowLemmas
+-- what is kept of full matches
+pub mod PartLemmas

@@ -2,8 +2,8 @@
 use Rattle.std.proofs.Common.{◌≡◌, ℕ, ◌<◌, ◌==◌, List, [], ◌∷◌, ◌++◌, Bool, true, false, cond, filter, length, map, reverse, slice_index_or, zero, suc, refl, ap, arith, subst, sym, ◌∙◌}
 use Rattle.std.specs.List.{AllByRecursion}
 use Rattle.std.proofs.lemmas.List.{map-append, reverse-append}
-use Rattle.rule_base.proofs.EachLemmas.{Each-append, Each-filter, Each-map}
 use Rattle.hash_buckets.specs.Buckets.{numbers_of}
+use Rattle.match_network.proofs.SoFarLemmas.{Each-bucket}
 use Rattle.conflict_parts.specs.declared.standing.RowId.{RowId}
 use Rattle.conflict_parts.specs.Waiters.{AreWithin, id_at, no_id, waiters_at, waiters_of}
 
@@ -48,17 +48,6 @@ map-reverse f (x ∷ xs) =
 
 pub waiters_at-bucket : (ids : List RowId) (entries : List (ℕ × ℕ)) (place : ℕ) → map (id_at ids) (reverse (numbers_of entries place)) ≡ reverse (waiters_at (waiters_of ids entries) place)
 waiters_at-bucket ids entries place = map-reverse (id_at ids) (numbers_of entries place) ∙ ap reverse (sym (waiters_at-of ids entries place))
-
--- TEMPORARY
-Each-reverse : {X : Type 0} (P : X → Type 0) (xs : List X) → AllByRecursion P xs → AllByRecursion P (reverse xs)
-Each-reverse P [] of_xs = tt
-Each-reverse P (x ∷ xs) of_xs = subst (AllByRecursion P) (sym (reverse-append (x ∷ []) xs)) (Each-append P (reverse xs) (x ∷ []) (Each-reverse P xs of_xs.1) (of_xs.0, tt))
-
-Each-bucket : (P : ℕ → Type 0) (entries : List (ℕ × ℕ)) (hash : ℕ) → AllByRecursion (λ (e : ℕ × ℕ). P e.1) entries → AllByRecursion P (reverse (numbers_of entries hash))
-Each-bucket P entries hash each =
-    Each-reverse P (numbers_of entries hash)
-    (Each-map P (λ (e : ℕ × ℕ). e.1) (filter (λ (e : ℕ × ℕ). e.0 == hash) entries) (Each-filter (λ (e : ℕ × ℕ). P e.1) (λ (e : ℕ × ℕ). e.0 == hash) entries each))
--- END
 
 -- a walk along a bucket begins
 pub walk_within : (given ids : List RowId) (entries : List (ℕ × ℕ)) (place : ℕ) (numbers : List ℕ) → given ≡ ids → numbers ≡ reverse (numbers_of entries place) → AreWithin ids entries → AllByRecursion (λ (number : ℕ). number < length given) numbers

@@ -6,3 +6,5 @@ pub mod Waiters
 pub mod Queue
 -- which full matches are candidates
 pub mod Part
+-- what becomes of them as elements come and go
+pub mod Change

@@ -1,5 +1,5 @@
--- Which full matches of a network are candidates, and how what is kept of them goes with it.
-use Rattle.std.specs.Prelude.{◌≡◌, ◌⊎◌, ℕ, ◌<◌, ◌≤◌, List, [], Bool, true, false, Option, Some, length, option_and_then, slice_get, slice_index_or}
+-- Which full matches of a network are candidates, and what is kept of them.
+use Rattle.std.specs.Prelude.{◌≡◌, ℕ, ◌<◌, ◌≤◌, List, [], Bool, true, Option, Some, length, slice_get, slice_index_or}
 use Rattle.std.specs.List.{list_all}
 use Rattle.std.specs.Option.{option_map_or}
 use Rattle.rule_base.specs.Numbers.{has_number}
@@ -10,7 +10,7 @@ use Rattle.match_network.specs.Row.{elements_of, is_living}
 use Rattle.match_network.specs.Rules.{RuleRows}
 use Rattle.conflict_parts.specs.declared.standing.RowId.{RowId}
 use Rattle.conflict_parts.specs.declared.standing.Standing.{Standing}
-use Rattle.conflict_parts.specs.declared.standing.Standing.TheVariants.{Marked, Open, Waiting}
+use Rattle.conflict_parts.specs.declared.standing.Standing.TheVariants.{Open, Waiting}
 use Rattle.conflict_parts.specs.Queue.{has_waiter, is_queued}
 use Rattle.conflict_parts.specs.Standings.{standing_at}
 
@@ -59,8 +59,8 @@ pub record IsPart (network : Network) (standings : List (List Standing)) (queue 
   pub noted : (rule number : ℕ) (row : List ℕ) (place : ℕ) → IsLivingRow network rule number row → standing_at standings rule number ≡ Some (Waiting place) → has_waiter waiters place rule number ≡ true
 
 -- a living full match that stands open, and is free
-pub record IsCandidate (part : Part) (id : RowId) : Type 0 where
+pub record IsCandidate (network : Network) (standings : List (List Standing)) (id : RowId) : Type 0 where
   pub row : List ℕ
-  pub lives : IsLivingRow part.network id.rule id.row row
-  pub stands : standing_at part.standings id.rule id.row ≡ Some Open
-  pub free : is_free_row part.network id.rule row ≡ true
+  pub lives : IsLivingRow network id.rule id.row row
+  pub stands : standing_at standings id.rule id.row ≡ Some Open
+  pub free : is_free_row network id.rule row ≡ true

@@ -83,7 +83,7 @@ impl RuleSet {
         ensures joins { joins_in self.new.rules.items ≡ joins_in self.old.rules.items }
         ensures touched { OthersStay self.new.due.items self.old.rules.items self.new.rules.items }
         ensures grows { AllGrow arrivals.now.came place self.old.rules.items self.new.rules.items }
-        ensures negated_due { OnOk result (AreNegatedDue (element_in element) self.new.rules.items self.new.negated_due.items) }
+        ensures negated_due { OnOk result (AreNegatedDue (element_in element.entry) self.new.rules.items self.new.negated_due.items) }
     {
         self.find_due(place, element)?;
         weave_all(
