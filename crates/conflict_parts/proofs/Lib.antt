@@ -8,3 +8,5 @@ pub mod QueueLemmas
 pub mod RowLemmas
 -- what is kept of full matches
 pub mod PartLemmas
+-- full matches that come to stand
+pub mod OpeningLemmas

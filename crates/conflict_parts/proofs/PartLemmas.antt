@@ -1,9 +1,10 @@
 -- What is kept of full matches goes with the network, after each change.
-use Rattle.std.proofs.Common.{◌≡◌, ◌≢◌, ◌⊎◌, inl, inr, ℕ, ◌<◌, ◌≤◌, ◌==◌, ◌||◌, List, [], ◌∷◌, ◌++◌, Bool, true, false, cond, not, Option, None, Some, filter, length, map, option_map, slice_get, slice_index_or, refl, ap, arith, subst, sym, ◌∙◌}
+use Rattle.std.proofs.Common.{◌≡◌, ◌≢◌, ◌⊎◌, inl, inr, ℕ, ◌<◌, ◌≤◌, ◌==◌, ◌||◌, List, [], ◌∷◌, ◌++◌, Bool, true, false, cond, not, replicate, Option, None, Some, filter, length, map, option_map, slice_get, slice_index_or, refl, ap, arith, subst, sym, ◌∙◌}
 use Rattle.std.specs.List.{AllByRecursion, list_any}
 use Rattle.std.specs.Option.{option_map_or}
-use Rattle.std.proofs.lemmas.Bool.{and_from, cases_Bool, eq-eqb, not_from_false, or_left, or_right}
-use Rattle.std.proofs.lemmas.List.{filter-append, map-append}
+use Rattle.std.proofs.lemmas.Bool.{and_from, cases_Bool, cases_lt, eq-eqb, not_from_false, or_left, or_right}
+use Rattle.std.proofs.lemmas.List.{get_or-replicate, get_or_past, length-replicate, map-append}
+use Rattle.std.proofs.lemmas.List.Elements.{filter-append}
 use Rattle.std.proofs.lemmas.List.Folds.{list_any-append}
 use Rattle.std.proofs.lemmas.Option.{slice_get_within}
 use Rattle.rule_base.specs.declared.element.Element.{Element}
@@ -15,11 +16,13 @@ use Rattle.match_network.specs.Negated.{blocks, whole_rows}
 use Rattle.match_network.specs.Network.{Network}
 use Rattle.match_network.specs.Row.{is_living}
 use Rattle.match_network.specs.Rules.{RuleRows}
+use Rattle.match_network.specs.declared.askers.Asker.{Asker}
+use Rattle.match_network.specs.Touched.{OthersStay, is_of}
 use Rattle.match_network.proofs.ComeLemmas.{Each-has, some_at}
 use Rattle.conflict_parts.specs.declared.standing.RowId.{RowId}
 use Rattle.conflict_parts.specs.declared.standing.Standing.{Standing}
 use Rattle.conflict_parts.specs.declared.standing.Standing.TheVariants.{Marked, Open, Waiting}
-use Rattle.conflict_parts.specs.Change.{HasGrown, IsCovered, NoneWaits}
+use Rattle.conflict_parts.specs.Change.{HasGrown, HasOpened, IsCovered, NoneWaits}
 use Rattle.conflict_parts.specs.Part.{AreNoMore, IsBlockedAt, IsLivingRow, IsPart, full_row, full_rows, is_free_row}
 use Rattle.conflict_parts.specs.Queue.{IsNowOpen, IsOpened, has_waiter, is_queued, same_row}
 use Rattle.conflict_parts.specs.Standings.{has_fired, is_marked, standing_at, with_set}
@@ -133,15 +136,15 @@ has_waiter-more waiters place id other rule row has =
     ∙ list_any-append (same_row rule row) (waiters_at waiters other) (waiters_at ((place, id) ∷ []) other)
     ∙ or_left (has_waiter waiters other rule row) (list_any (same_row rule row) (waiters_at ((place, id) ∷ []) other)) has
 
-last_waits : (place : ℕ) (id : RowId) (here : Bool) → (place == place) ≡ here → here ≡ true → list_any (same_row id.rule id.row) (map (λ (w : ℕ × RowId). w.1) (cond here ((place, id) ∷ []) [])) ≡ true
-last_waits place id true is yes = or_left (same_row id.rule id.row id) false (same_row-here id)
-last_waits place id false is yes = absurd (let wrong : ⊥ = cc in wrong)
+last_waits : (place : ℕ) (id : RowId) (here : Bool) → here ≡ true → list_any (same_row id.rule id.row) (map (λ (w : ℕ × RowId). w.1) (cond here ((place, id) ∷ []) [])) ≡ true
+last_waits place id true so = or_left (same_row id.rule id.row id) false (same_row-here id)
+last_waits place id false so = absurd (let wrong : ⊥ = cc in wrong)
 
 pub has_waiter-last : (waiters : List (ℕ × RowId)) (place : ℕ) (id : RowId) → has_waiter (waiters ++ (place, id) ∷ []) place id.rule id.row ≡ true
 has_waiter-last waiters place id =
     ap (list_any (same_row id.rule id.row)) (waiters_at-push waiters place id place)
     ∙ list_any-append (same_row id.rule id.row) (waiters_at waiters place) (waiters_at ((place, id) ∷ []) place)
-    ∙ or_right (has_waiter waiters place id.rule id.row) (list_any (same_row id.rule id.row) (waiters_at ((place, id) ∷ []) place)) (last_waits place id (place == place) refl (eq-eqb place place refl))
+    ∙ or_right (has_waiter waiters place id.rule id.row) (list_any (same_row id.rule id.row) (waiters_at ((place, id) ∷ []) place)) (last_waits place id (place == place) (eq-eqb place place refl))
 
 pub part_waits : (network : Network) (ss : List (List Standing)) (queue : List RowId) (waiters : List (ℕ × RowId)) (id : RowId) (place : ℕ) → ((row : List ℕ) → IsLivingRow network id.rule id.row row → IsBlockedAt network id.rule row place) → IsPart network ss queue waiters → IsPart network (with_set ss id.rule id.row (Waiting place)) queue (waiters ++ (place, id) ∷ [])
 part_waits network ss queue waiters id place blocked held =
@@ -201,6 +204,14 @@ marks_marked network ss queue waiters id row held lives rule number =
     let stands = stands_at ss id.rule id.row (held.covered id.rule id.row row lives) in
     marked_step ss id stands.standing rule number (same_row rule number id) refl stands.is
 
+-- one that waits isn't open
+pub waiting-closed : (ss : List (List Standing)) (id : RowId) (place : ℕ) → standing_at (with_set ss id.rule id.row (Waiting place)) id.rule id.row ≢ Some Open
+waiting-closed ss id place at = set_open (standing_at ss id.rule id.row) (sym (with_set-same ss id.rule id.row (Waiting place)) ∙ at)
+  where
+    set_open : (found : Option Standing) → option_map (λ (old : Standing). Waiting place) found ≡ Some Open → ⊥
+    set_open None is = cc
+    set_open (Some old) is = cc
+
 -- what becomes of one that lives after a change: it lived before, and what it waits for stands in its way still; or it
 -- is open
 pub record Stays (old new : Network) (ss : List (List Standing)) (rule number : ℕ) (row : List ℕ) : Type 0 where
@@ -256,14 +267,19 @@ part_after old new ss after before queue waiters held opened count no_more each 
 }
   where
     clash : (ss : List (List Standing)) (rule row place : ℕ) → standing_at ss rule row ≡ Some Open → standing_at ss rule row ≡ Some (Waiting place) → ⊥
-    clash ss rule row place open waits =
-        let both : Some Open ≡ Some (Waiting place) = sym open ∙ waits in
+    clash ss rule row place stands waits =
+        let both : Some Open ≡ Some (Waiting place) = sym stands ∙ waits in
         cc
 
 -- some are opened in the same network
 pub part_opened : (network : Network) (ss after : List (List Standing)) (before queue : List RowId) (waiters : List (ℕ × RowId)) → IsPart network ss before waiters → IsOpened ss before after queue → AreNoMore network.rules after → IsPart network after queue waiters
 part_opened network ss after before queue waiters held opened no_more =
     part_after network network ss after before queue waiters held opened refl no_more (λ rule number row lives. inl (record { lived = lives; blocked = λ place at is. is }))
+
+-- those that waited at a place are woken
+pub part_woken : (network : Network) (ss after : List (List Standing)) (before queue : List RowId) (waiters : List (ℕ × RowId)) → IsPart network ss before waiters → IsOpened ss before after queue → ((rule : ℕ) → length (slice_index_or after rule []) ≡ length (slice_index_or ss rule [])) → IsPart network after queue waiters
+part_woken network ss after before queue waiters held opened lengths =
+    part_opened network ss after before queue waiters held opened (λ rule. omega (arith, held.no_more rule, lengths rule))
 
 -- an element came, and was dead at once
 pub part_undone : (old new left : Network) (e : Element) (ss after : List (List Standing)) (before queue : List RowId) (waiters : List (ℕ × RowId)) → HasGrown old new e → left.rules ≡ new.rules → left.arrivals.came ≡ new.arrivals.came → left.arrivals.places ≡ old.arrivals.places →
@@ -288,6 +304,17 @@ part_undone old new left e ss after before queue waiters grown rules came places
               let there = living-has old.arrivals.places row (length old.arrivals.came) lives_before further.1 in
               absurd (let lt : length old.arrivals.came < length old.arrivals.came = Each-has (λ p. p < length old.arrivals.came) old.arrivals.places (length old.arrivals.came) grown.below there in omega arith)
         ])
+
+pub no_more-longer : (old new : Network) (e : Element) (ss : List (List Standing)) → HasGrown old new e → AreNoMore old.rules ss → AreNoMore new.rules ss
+no_more-longer old new e ss grown no_more rule = omega (arith, no_more rule, grown.longer rule)
+
+-- each rule was due and has all its full matches standing, or is as it was
+pub due_or_same : (due : List Asker) (old new : List RuleRows) (ss : List (List Standing)) → OthersStay due old new → ((rule : ℕ) → list_any (is_of rule) due ≡ true → IsCovered new ss rule) → (rule : ℕ) → (slice_get new rule ≡ slice_get old rule) ⊎ IsCovered new ss rule
+due_or_same due old new ss others covered rule =
+    elim (cases_Bool (list_any (is_of rule) due)) [
+      | inl so ↦ inr (covered rule so)
+      | inr so ↦ inl (others rule so)
+    ]
 
 -- an element came
 pub part_grown : (old new : Network) (e : Element) (ss after : List (List Standing)) (before queue : List RowId) (waiters : List (ℕ × RowId)) → HasGrown old new e → new.arrivals.places ≡ old.arrivals.places ++ length old.arrivals.came ∷ [] →
@@ -343,3 +370,34 @@ part_without old new tag ss queue waiters arrivals rules none held =
                 stands = λ kept at_rule. ap (λ (es : List Element). blocks kept.joins es row place) came ∙ blocked.stands kept (ap (λ (rs : List RuleRows). slice_get rs rule) (sym rules) ∙ at_rule);
               };
         }))
+
+-- there are no elements yet
+nobody : (count rule row : ℕ) → standing_at (replicate count []) rule row ≡ None
+nobody count rule row =
+    elim (cases_lt rule count) [
+      | inl lt ↦ ap (λ (of_rule : List Standing). slice_get of_rule row) (get_or-replicate count rule [] [] lt)
+      | inr le ↦ ap (λ (of_rule : List Standing). slice_get of_rule row) (get_or_past (replicate count []) rule [] (omega (arith, le, length-replicate {A = List Standing} count [])))
+    ]
+
+pub part_new : (network : Network) (none ss : List (List Standing)) (count : ℕ) (before queue : List RowId) (waiters : List (ℕ × RowId)) → none ≡ replicate count [] → count ≡ length network.rules → HasOpened network.rules none before ss queue → ((rule : ℕ) → IsCovered network.rules ss rule) → IsPart network ss queue waiters
+part_new network none ss count before queue waiters none_is count_is opened covered = record {
+  count = opened.opened.count ∙ ap (λ (xs : List (List Standing)). length xs) none_is ∙ length-replicate count [] ∙ count_is;
+  no_more = opened.no_more;
+  covered = λ rule number row lives. omega (arith, covered rule, slice_get_within (full_rows network.rules rule) number row lives.is);
+  opened = λ rule number row lives at. (stood rule number Open at).queued;
+  blocked = λ rule number row place lives at. absurd (clash rule number place (stood rule number (Waiting place) at).stands at);
+  noted = λ rule number row place lives at. absurd (clash rule number place (stood rule number (Waiting place) at).stands at);
+}
+  where
+    stood : (rule number : ℕ) (x : Standing) → standing_at ss rule number ≡ Some x → IsNowOpen none ss queue rule number
+    stood rule number x at =
+        elim (opened.opened.each rule number) [
+          | inl same ↦
+              let was : None ≡ Some x = sym (ap (λ (xs : List (List Standing)). standing_at xs rule number) none_is ∙ nobody count rule number) ∙ (sym same ∙ at) in
+              absurd (let wrong : ⊥ = cc in wrong)
+          | inr now ↦ now
+        ]
+    clash : (rule number place : ℕ) → standing_at ss rule number ≡ Some Open → standing_at ss rule number ≡ Some (Waiting place) → ⊥
+    clash rule number place stands waits =
+        let both : Some Open ≡ Some (Waiting place) = sym stands ∙ waits in
+        cc

@@ -1,11 +1,13 @@
 -- Who stands open and is in the queue, after one change more.
-use Rattle.std.proofs.Common.{◌≡◌, ◌≢◌, ◌⊎◌, inl, inr, ℕ, ◌<◌, ◌==◌, ◌&&◌, ◌||◌, List, [], ◌∷◌, ◌++◌, Bool, true, false, Option, None, Some, Result, Ok, Err, cond, filter, length, map, reverse, slice_get, slice_index_or, zero, suc, refl, ap, arith, subst, sym, ◌∙◌}
+use Rattle.std.proofs.Common.{◌≡◌, ◌≢◌, ◌⊎◌, inl, inr, ℕ, ◌+◌, ◌-◌, ◌<◌, ◌==◌, ◌&&◌, ◌||◌, List, [], ◌∷◌, ◌++◌, Bool, true, false, Option, None, Some, Result, Ok, Err, cond, filter, length, map, reverse, slice_get, slice_index_or, take, zero, suc, refl, ap, arith, subst, sym, ◌∙◌}
 use Rattle.std.specs.List.{list_any}
 use Rattle.std.specs.Result.{OnErr, OnOk}
 use Rattle.std.specs.Option.{option_map, option_map_or}
 use Rattle.std.proofs.lemmas.Bool.{and_from, and_parts, cases_Bool, eq-eqb, eqb-true, or_cases, or_left, or_right}
 use Rattle.std.proofs.lemmas.List.Folds.{list_any-append}
 use Rattle.std.proofs.lemmas.List.{reverse-append}
+use Rattle.std.proofs.lemmas.Option.{slice_get_within}
+use Rattle.match_network.proofs.ComeLemmas.{some_at}
 use Rattle.conflict_parts.specs.declared.standing.RowId.{RowId}
 use Rattle.conflict_parts.specs.declared.standing.Standing.{Standing}
 use Rattle.conflict_parts.specs.declared.standing.Standing.TheVariants.{Marked, Open, Waiting}
@@ -165,3 +167,23 @@ AreLeft-none place waiters ss left none held rule row waits at =
     let still = held.each rule row (any-reverse (same_row rule row) (waiters_at waiters place) waits) at in
     let wrong : false ≡ true = ap (λ (queue : List RowId). is_queued queue rule row) (sym none) ∙ still in
     cc
+
+-- the last of the queue, and those before it
+ends_at : (queue : List RowId) (n : ℕ) (last : RowId) → length queue ≡ n + 1 → slice_get queue n ≡ Some last → queue ≡ take n queue ++ last ∷ []
+ends_at [] n last long at = absurd (omega (arith, long))
+ends_at (id ∷ []) zero last long at = let same : id ≡ last = cc in ap (λ (x : RowId). x ∷ []) same
+ends_at (id ∷ other ∷ queue) zero last long at = absurd (omega (arith, long))
+ends_at (id ∷ queue) (suc n) last long at = ap (λ (ids : List RowId). id ∷ ids) (ends_at queue n last (omega (arith, long)) at)
+
+pub ends_with : (queue before : List RowId) (count : ℕ) (last : RowId) → count ≡ length queue → before ≡ take (count - 1) queue → slice_get queue (length queue - 1) ≡ Some last → queue ≡ before ++ last ∷ []
+ends_with queue before count last count_is before_is at =
+    let within = slice_get_within queue (length queue - 1) last at in
+    ends_at queue (length queue - 1) last (omega (arith, within)) at
+    ∙ ap (λ (ids : List RowId). ids ++ last ∷ []) (ap (λ n. take (n - 1) queue) (sym count_is) ∙ sym before_is)
+
+pub ends_nowhere : (queue : List RowId) → slice_get queue (length queue - 1) ≡ None → queue ≡ []
+ends_nowhere [] at = refl
+ends_nowhere (id ∷ queue) at =
+    let found = some_at (id ∷ queue) (length (id ∷ queue) - 1) (omega arith) in
+    let both : None ≡ Some found.item = sym at ∙ found.is in
+    absurd (let wrong : ⊥ = cc in wrong)

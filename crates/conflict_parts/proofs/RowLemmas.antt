@@ -1,18 +1,21 @@
 -- Full rows: which they are, and what stands in their way, as elements come.
-use Rattle.std.proofs.Common.{◌≡◌, ◌⊎◌, inl, inr, ℕ, ◌-◌, ◌<◌, ◌≤◌, ◌==◌, List, [], ◌∷◌, ◌++◌, Bool, true, false, cond, Option, None, Some, filter, length, length-append, map, option_map, slice_get, take, zero, suc, refl, ap, arith, subst, sym, ◌∙◌}
+use Rattle.std.proofs.Common.{◌≡◌, ◌⊎◌, inl, inr, ℕ, ◌-◌, ◌<◌, ◌≤◌, ◌==◌, List, [], ◌∷◌, ◌++◌, Bool, true, false, cond, Option, None, Some, Result, Ok, Err, filter, length, length-append, map, option_map, slice_get, take, zero, suc, refl, ap, arith, subst, sym, ◌∙◌}
 use Rattle.std.specs.List.{AllByRecursion, list_all, list_any}
 use Rattle.std.specs.Option.{option_map_or}
-use Rattle.std.proofs.lemmas.Bool.{and_from, and_parts, eqb-true, or_cases, or_left, or_right}
+use Rattle.std.specs.Result.{OnErr, OnOk}
+use Rattle.std.proofs.lemmas.Bool.{and_from, and_parts, eqb-true, or_cases, or_left, or_parts, or_right}
 use Rattle.std.proofs.lemmas.List.{length-map}
 use Rattle.std.proofs.lemmas.List.Folds.{list_any-append}
 use Rattle.std.proofs.lemmas.Option.{slice_get-map, slice_get_within}
 use Rattle.rule_base.specs.declared.element.Element.{Element}
+use Rattle.rule_base.specs.Memory.{Rises, tags_of}
 use Rattle.rule_base.specs.Numbers.{has_number}
 use Rattle.rule_base.proofs.EachLemmas.{Each-slice_get}
 use Rattle.join_tests.specs.declared.joins.Joins.{Joins}
 use Rattle.join_tests.specs.declared.joins.Negated.{Negated}
 use Rattle.join_tests.specs.Joining.{joins}
 use Rattle.join_tests.specs.Meaning.{is_free}
+use Rattle.match_network.specs.Arrivals.{Arrivals, with_arrival, without_tag}
 use Rattle.match_network.specs.Conditions.{joins_of, rows_of}
 use Rattle.match_network.specs.Levels.{AreLevels, HaveCome}
 use Rattle.match_network.specs.Negated.{IsWholeRow, blocks, whole_rows}
@@ -22,6 +25,8 @@ use Rattle.match_network.specs.Rules.{RuleRows}
 use Rattle.match_network.specs.Touched.{AllGrow}
 use Rattle.match_network.proofs.BlockLemmas.{blocked_is_not_free}
 use Rattle.match_network.proofs.ComeLemmas.{Each-has, elements_of-come, slice_get-more, some_at}
+use Rattle.match_network.proofs.SetChangeLemmas.{places_undone}
+use Rattle.match_network.proofs.TagLemmas.{tags-push}
 use Rattle.conflict_parts.specs.Change.{HasGrown}
 use Rattle.conflict_parts.specs.Part.{IsBlockedAt, IsLivingRow, full_row, full_rows, is_free_row}
 
@@ -72,7 +77,7 @@ pub record Before (old : List RuleRows) (rule : ℕ) (after : RuleRows) : Type 0
 
 before_of : (old new : List RuleRows) (rule : ℕ) (after : RuleRows) → joins_in new ≡ joins_in old → slice_get new rule ≡ Some after → Before old rule after
 before_of old new rule after same at =
-    let lt : rule < length old = omega (arith, slice_get_within new rule after at, ap (λ (js : List Joins). length js) same, length-map (λ (r : RuleRows). r.joins) new, length-map (λ (r : RuleRows). r.joins) old) in
+    let lt : rule < length old = omega (arith, slice_get_within new rule after at, ap (λ (js : List Joins). length js) same, length-map new (λ (r : RuleRows). r.joins), length-map old (λ (r : RuleRows). r.joins)) in
     let found = some_at old rule lt in
     let joins_same : Some after.joins ≡ Some found.item.joins =
     ap (option_map (λ (r : RuleRows). r.joins)) (sym at) ∙ sym (slice_get-map (λ (r : RuleRows). r.joins) new rule)
@@ -179,31 +184,95 @@ pub has-more : (places : List ℕ) (last place : ℕ) → has_number places plac
 has-more places last place has = list_any-append (λ n. n == place) places (last ∷ []) ∙ or_left (has_number places place) (has_number (last ∷ []) place) has
 
 -- those that stay
+filter_has-step : (keep : ℕ → Bool) (p : ℕ) (places : List ℕ) (place : ℕ) (b : Bool) → keep p ≡ b → keep place ≡ true → ((p == place) ≡ true) ⊎ (has_number (filter keep places) place ≡ true) → has_number (cond b (p ∷ filter keep places) (filter keep places)) place ≡ true
+filter_has-step keep p places place true is stays (inl same) = or_left (p == place) (has_number (filter keep places) place) same
+filter_has-step keep p places place true is stays (inr later) = or_right (p == place) (has_number (filter keep places) place) later
+filter_has-step keep p places place false is stays (inl same) =
+    let goes : keep place ≡ false = subst (λ q. keep q ≡ false) (eqb-true p place same) is in
+    let wrong : true ≡ false = sym stays ∙ goes in
+    absurd (let no : ⊥ = cc in no)
+filter_has-step keep p places place false is stays (inr later) = later
+
 pub filter_has : (keep : ℕ → Bool) (places : List ℕ) (place : ℕ) → has_number places place ≡ true → keep place ≡ true → has_number (filter keep places) place ≡ true
 filter_has keep [] place has stays = has
 filter_has keep (p ∷ places) place has stays =
-    kept (keep p) refl (or_cases (p == place) (has_number places place) has)
-  where
-    kept : (b : Bool) → keep p ≡ b → ((p == place) ≡ true) ⊎ (has_number places place ≡ true) → has_number (cond b (p ∷ filter keep places) (filter keep places)) place ≡ true
-    kept true is (inl same) = or_left (p == place) (has_number (filter keep places) place) same
-    kept true is (inr later) = or_right (p == place) (has_number (filter keep places) place) (filter_has keep places place later stays)
-    kept false is (inl same) = absurd (let wrong : keep place ≡ false = subst (λ q. keep q ≡ false) (eqb-true p place same) is in let no : ⊥ = cc in no)
-    kept false is (inr later) = filter_has keep places place later stays
+    filter_has-step keep p places place (keep p) refl stays
+    (elim (or_cases (p == place) (has_number places place) has) [
+      | inl same ↦ inl same
+      | inr later ↦ inr (filter_has keep places place later stays)
+    ])
+
+has-filter_step : (keep : ℕ → Bool) (p : ℕ) (places : List ℕ) (place : ℕ) (b : Bool) → (has_number (filter keep places) place ≡ true → has_number places place ≡ true) → has_number (cond b (p ∷ filter keep places) (filter keep places)) place ≡ true → has_number (p ∷ places) place ≡ true
+has-filter_step keep p places place true rest is =
+    elim (or_cases (p == place) (has_number (filter keep places) place) is) [
+      | inl same ↦ or_left (p == place) (has_number places place) same
+      | inr later ↦ or_right (p == place) (has_number places place) (rest later)
+    ]
+has-filter_step keep p places place false rest is = or_right (p == place) (has_number places place) (rest is)
 
 pub has-filter : (keep : ℕ → Bool) (places : List ℕ) (place : ℕ) → has_number (filter keep places) place ≡ true → has_number places place ≡ true
 has-filter keep [] place has = has
-has-filter keep (p ∷ places) place has = kept (keep p) has
-  where
-    kept : (b : Bool) → has_number (cond b (p ∷ filter keep places) (filter keep places)) place ≡ true → has_number (p ∷ places) place ≡ true
-    kept true is =
-        elim (or_cases (p == place) (has_number (filter keep places) place) is) [
-          | inl same ↦ or_left (p == place) (has_number places place) same
-          | inr later ↦ or_right (p == place) (has_number places place) (has-filter keep places place later)
-        ]
-    kept false is = or_right (p == place) (has_number places place) (has-filter keep places place is)
+has-filter keep (p ∷ places) place has = has-filter_step keep p places place (keep p) (has-filter keep places place) has
 
 pub living-filter : (keep : ℕ → Bool) (places row : List ℕ) → is_living (filter keep places) row ≡ true → is_living places row ≡ true
 living-filter keep places [] lives = refl
 living-filter keep places (p ∷ row) lives =
     let parts = and_parts (has_number (filter keep places) p) (is_living (filter keep places) row) lives in
     and_from (has_number places p) (is_living places row) (has-filter keep places p parts.0) (living-filter keep places row parts.1)
+
+-- no number of these passes
+pub none_has : (test : ℕ → Bool) (places : List ℕ) (place : ℕ) → list_any test places ≡ false → has_number places place ≡ true → test place ≡ true → ⊥
+none_has test [] place none has passes = cc
+none_has test (p ∷ places) place none has passes =
+    let parts = or_parts (test p) (list_any test places) none in
+    elim (or_cases (p == place) (has_number places place) has) [
+      | inl same ↦
+          let fails : test place ≡ false = subst (λ q. test q ≡ false) (eqb-true p place same) parts.0 in
+          let wrong : true ≡ false = sym passes ∙ fails in
+          absurd (let no : ⊥ = cc in no)
+      | inr later ↦ none_has test places place parts.1 later passes
+    ]
+
+-- the numbers of a living row are those of a rule and of a row
+pub rule_within : (network : Network) (rule number : ℕ) (row : List ℕ) → IsLivingRow network rule number row → rule < length network.rules
+rule_within network rule number row lives =
+    let whole = whole_of network.rules rule number row lives.is in
+    slice_get_within network.rules rule whole.kept whole.is.rule_is
+
+pub whole_is : (network : Network) (rule number : ℕ) (row : List ℕ) → IsLivingRow network rule number row → (kept : RuleRows) → slice_get network.rules rule ≡ Some kept → IsWholeRow network.rules rule number kept row
+whole_is network rule number row lives kept at = record {
+  rule_is = at;
+  row_is = ap (λ (rows : List (List ℕ)). slice_get rows number) (sym (full_rows-kept network.rules rule kept at)) ∙ lives.is;
+}
+
+pub row_within : (network : Network) (rule number : ℕ) (row : List ℕ) → IsLivingRow network rule number row → (kept : RuleRows) → slice_get network.rules rule ≡ Some kept → number < length (whole_rows kept)
+row_within network rule number row lives kept at = slice_get_within (whole_rows kept) number row (whole_is network rule number row lives kept at).row_is
+
+-- what a network that takes in an element, or fails to, says of itself
+came_either : {E : Type 0} (r : Result (Unit {0}) E) (old new : Network) (e : Element) → OnOk r (new.arrivals ≡ with_arrival old.arrivals e) → OnErr r ((new.arrivals.came ≡ old.arrivals.came) ⊎ (new.arrivals.came ≡ old.arrivals.came ++ e ∷ [])) → (new.arrivals.came ≡ old.arrivals.came) ⊎ (new.arrivals.came ≡ old.arrivals.came ++ e ∷ [])
+came_either (Ok x) old new e ok err = inr (ap (λ (a : Arrivals). a.came) ok)
+came_either (Err x) old new e ok err = err
+
+pub grown-from : {E : Type 0} (r : Result (Unit {0}) E) (old new : Network) (e : Element) →
+  ((number : ℕ) (kept : RuleRows) → slice_get old.rules number ≡ Some kept → AreLevels (joins_of kept.joins.positives) old.arrivals.came old.arrivals.places (rows_of kept.levels)) →
+  ((number : ℕ) (kept : RuleRows) → slice_get old.rules number ≡ Some kept → length kept.levels ≡ length kept.joins.positives) →
+  ((number : ℕ) (kept : RuleRows) → slice_get new.rules number ≡ Some kept → length kept.levels ≡ length kept.joins.positives) →
+  AllByRecursion (λ p. p < length old.arrivals.came) old.arrivals.places →
+  joins_in new.rules ≡ joins_in old.rules → AllGrow new.arrivals.came (length old.arrivals.came) old.rules new.rules →
+  OnOk r (new.arrivals ≡ with_arrival old.arrivals e) → OnErr r ((new.arrivals.came ≡ old.arrivals.came) ⊎ (new.arrivals.came ≡ old.arrivals.came ++ e ∷ [])) → HasGrown old new e
+grown-from r old new e right long_old long_new below joins_are grows ok err = record {
+  count = sym (length-map new.rules (λ (r : RuleRows). r.joins)) ∙ ap (λ (js : List Joins). length js) joins_are ∙ length-map old.rules (λ (r : RuleRows). r.joins);
+  joins = joins_are;
+  rows = rows_grow old new joins_are grows long_old long_new;
+  longer = rows_longer old new joins_are grows long_old long_new;
+  have_come = rows_came old right;
+  below = below;
+  came = came_either r old new e ok err;
+}
+
+-- the element that came is taken out again
+pub undone-from : {E : Type 0} (r : Result (Unit {0}) E) (old new : Network) (e : Element) → AllByRecursion (λ p. p < length old.arrivals.came) old.arrivals.places → Rises (tags_of old.arrivals.came) → AllByRecursion (λ (f : Element). f.tag < e.tag) old.arrivals.came →
+  OnOk r (new.arrivals ≡ with_arrival old.arrivals e) → OnOk r ((left : Arrivals) → left ≡ without_tag new.arrivals e.tag → left.places ≡ old.arrivals.places)
+undone-from (Ok x) old new e below tags above ok = λ left is.
+    places_undone old.arrivals new.arrivals left e below ok (subst (λ (a : Arrivals). Rises (tags_of a.came)) (sym ok) (tags-push old.arrivals.came e tags above)) is
+undone-from (Err x) old new e below tags above ok = tt

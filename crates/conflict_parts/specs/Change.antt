@@ -10,13 +10,19 @@ use Rattle.match_network.specs.Rules.{RuleRows}
 use Rattle.conflict_parts.specs.declared.standing.RowId.{RowId}
 use Rattle.conflict_parts.specs.declared.standing.Standing.{Standing}
 use Rattle.conflict_parts.specs.declared.standing.Standing.TheVariants.{Waiting}
-use Rattle.conflict_parts.specs.Part.{full_row, full_rows}
-use Rattle.conflict_parts.specs.Queue.{has_waiter}
+use Rattle.conflict_parts.specs.Part.{AreNoMore, full_row, full_rows}
+use Rattle.conflict_parts.specs.Queue.{IsOpened, has_waiter}
 use Rattle.conflict_parts.specs.Standings.{standing_at}
 
 -- all full matches of a rule stand somehow, the dead ones too
 abbrev pub IsCovered : List RuleRows → List (List Standing) → ℕ → Type 0
 IsCovered rules standings rule = length (full_rows rules rule) ≤ length (slice_index_or standings rule [])
+
+-- some full matches have come to stand, open and in the queue, and no more than there are
+pub record HasOpened (rules : List RuleRows) (old : List (List Standing)) (before : List RowId) (new : List (List Standing)) (queue : List RowId) : Type 0 where
+  pub opened : IsOpened old before new queue
+  pub no_more : AreNoMore rules new
+  pub kept : (rule : ℕ) → IsCovered rules old rule → IsCovered rules new rule
 
 -- a network has taken in an element, or has failed to: full rows keep their numbers, and each further one has the
 -- element's place

@@ -3,9 +3,8 @@
 ghost use Rattle.std.specs.Prelude.{◌≡◌, ℕ, ◌<◌, OnOk, length, true};
 ghost use Rattle.std.specs.List.{list_any};
 ghost use Rattle.match_network.specs.Touched.{is_of};
-ghost use Rattle.conflict_parts.specs.Change.{IsCovered};
+ghost use Rattle.conflict_parts.specs.Change.{HasOpened, IsCovered};
 ghost use Rattle.conflict_parts.specs.Part.{AreNoMore};
-ghost use Rattle.conflict_parts.specs.Queue.{IsOpened};
 
 use crate::queue::open_one;
 use crate::standing::{RowId, Standings};
@@ -20,8 +19,7 @@ pub(crate) fn open_all(
 ) -> Result<(), OutOfMemory>
     requires count { length standings.old ≡ length network.now.rules }
     requires no_more { AreNoMore network.now.rules standings.old }
-    ensures opened { IsOpened standings.old queue.old.items standings.new queue.new.items }
-    ensures no_more { AreNoMore network.now.rules standings.new }
+    ensures opened { HasOpened network.now.rules standings.old queue.old.items standings.new queue.new.items }
     ensures all { OnOk result ((rule : ℕ) → IsCovered network.now.rules standings.new rule) }
 {
     for rule in 0..network.len() {
@@ -39,8 +37,7 @@ pub(crate) fn open_due(
 ) -> Result<(), OutOfMemory>
     requires count { length standings.old ≡ length network.now.rules }
     requires no_more { AreNoMore network.now.rules standings.old }
-    ensures opened { IsOpened standings.old queue.old.items standings.new queue.new.items }
-    ensures no_more { AreNoMore network.now.rules standings.new }
+    ensures opened { HasOpened network.now.rules standings.old queue.old.items standings.new queue.new.items }
     ensures all { OnOk result ((rule : ℕ) → list_any (is_of rule) network.now.due ≡ true → IsCovered network.now.rules standings.new rule) }
 {
     let due = network.due();
@@ -59,9 +56,7 @@ fn open_rule(
 ) -> Result<(), OutOfMemory>
     requires count { length standings.old ≡ length network.now.rules }
     requires no_more { AreNoMore network.now.rules standings.old }
-    ensures opened { IsOpened standings.old queue.old.items standings.new queue.new.items }
-    ensures no_more { AreNoMore network.now.rules standings.new }
-    ensures kept { (other : ℕ) → IsCovered network.now.rules standings.old other → IsCovered network.now.rules standings.new other }
+    ensures opened { HasOpened network.now.rules standings.old queue.old.items standings.new queue.new.items }
     ensures all { OnOk result (IsCovered network.now.rules standings.new rule) }
 {
     if rule < network.len() {
@@ -81,9 +76,7 @@ fn open_new(
     requires rule { rule < length network.now.rules }
     requires count { length standings.old ≡ length network.now.rules }
     requires no_more { AreNoMore network.now.rules standings.old }
-    ensures opened { IsOpened standings.old queue.old.items standings.new queue.new.items }
-    ensures no_more { AreNoMore network.now.rules standings.new }
-    ensures kept { (other : ℕ) → IsCovered network.now.rules standings.old other → IsCovered network.now.rules standings.new other }
+    ensures opened { HasOpened network.now.rules standings.old queue.old.items standings.new queue.new.items }
     ensures all { OnOk result (IsCovered network.now.rules standings.new rule) }
 {
     let count = network.rule(rule).whole_count();

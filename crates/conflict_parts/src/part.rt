@@ -4,7 +4,7 @@ ghost use Rattle.std.specs.Prelude.{◌≡◌, ℕ, ◌<◌, ◌||◌, ◌⊎◌
 ghost use Rattle.std.specs.List.{AllByRecursion};
 ghost use Rattle.rule_base.specs.declared.element.Element.{Element};
 ghost use Rattle.rule_base.specs.Views.{element_in};
-ghost use Rattle.match_network.specs.Arrivals.{with_arrival, without_tag};
+ghost use Rattle.match_network.specs.Arrivals.{Arrivals, with_arrival, without_tag};
 ghost use Rattle.match_network.specs.Network.{joins_in};
 ghost use Rattle.match_network.specs.Rules.{AreCompiled};
 ghost use Rattle.match_network.specs.Touched.{AllGrow, OthersStay};
@@ -181,7 +181,9 @@ fn take_in<L: Ledger>(
     ensures came { OnErr result ((network.new.arrivals.came ≡ network.old.arrivals.came)
         ⊎ (network.new.arrivals.came ≡ network.old.arrivals.came ++ element_in element.entry ∷ [])) }
     ensures grown { HasGrown network.old network.new (element_in element.entry) }
+    ensures undone { OnOk result ((left : Arrivals) → left ≡ without_tag network.new.arrivals element.tag → left.places ≡ network.old.arrivals.places) }
 {
+    // What these tell is known of the network before, and then of the one after.
     network.all_are_right();
     let _came = network.arrivals().len();
     let added = network.add(element, steps);
