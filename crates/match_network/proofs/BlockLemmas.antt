@@ -1,13 +1,12 @@
 -- What stands in the way of a row, along the bucket where it is looked for.
-use Rattle.std.proofs.Common.{◌≡◌, ℕ, zero, suc, ◌==◌, ◌&&◌, ◌||◌, List, [], ◌∷◌, ◌++◌, Bool, true, false, not, cond, reverse, take, IfSome, Option, None, Some, refl, ap, subst, sym, ◌∙◌, slice_get}
-use Rattle.std.specs.List.{AllByRecursion, cons_option, filter, list_all, list_any}
-use Rattle.std.proofs.lemmas.Bool.{and_parts, eqb-true}
+use Rattle.std.proofs.Common.{◌≡◌, ℕ, zero, suc, ◌==◌, ◌&&◌, ◌||◌, List, [], ◌∷◌, Bool, true, false, not, cond, reverse, take, IfSome, Option, None, Some, refl, ap, sym, ◌∙◌, slice_get}
+use Rattle.std.specs.List.{cons_option, filter, list_all, list_any}
+use Rattle.std.proofs.lemmas.Bool.{eqb-true}
 use Rattle.std.proofs.lemmas.List.{reverse-append}
 use Rattle.std.proofs.lemmas.List.Folds.{list_any-append}
 use Rattle.rule_base.specs.declared.element.Element.{Element}
 use Rattle.rule_base.specs.Numbers.{has_number}
 use Rattle.hash_buckets.specs.Buckets.{numbers_of, stays}
-use Rattle.join_tests.specs.declared.joins.Join.{Join}
 use Rattle.join_tests.specs.declared.joins.Joins.{Joins}
 use Rattle.join_tests.specs.declared.joins.Negated.{Negated}
 use Rattle.join_tests.specs.Joining.{joins}

@@ -34,3 +34,4 @@ pub mod TakeLemmas
 pub mod PassedLemmas
 pub mod StopLemmas
 pub mod SetChangeLemmas
+pub mod TellLemmas

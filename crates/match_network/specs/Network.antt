@@ -1,5 +1,5 @@
 -- The network: the elements, and what is kept of each rule.
-use Rattle.std.specs.Prelude.{◌≡◌, ℕ, ◌<◌, ◌==◌, Bool, List, not, length, map}
+use Rattle.std.specs.Prelude.{◌≡◌, ℕ, ◌<◌, ◌==◌, Bool, List, not, length, map, slice_get, Some}
 use Rattle.std.specs.List.{AllByRecursion}
 use Rattle.rule_base.specs.declared.element.Element.{Element}
 use Rattle.rule_base.specs.Memory.{Rises}
@@ -7,6 +7,8 @@ use Rattle.join_tests.specs.declared.joins.Joins.{Joins}
 use Rattle.alpha_memory.specs.Stores.{Store}
 use Rattle.match_network.specs.declared.askers.Asker.{Asker}
 use Rattle.match_network.specs.Arrivals.{Arrivals, with_arrival}
+use Rattle.match_network.specs.Conditions.{joins_of, rows_of}
+use Rattle.match_network.specs.Levels.{AreLevels}
 use Rattle.match_network.specs.Negated.{AreNegatedServed, negated_in}
 use Rattle.match_network.specs.Rules.{AreAskers, IsRight, RuleRows}
 
@@ -24,6 +26,15 @@ pub record IsNetwork (came : List Element) (places : List ℕ) (alpha : List Sto
   pub askers_are : AreAskers (map (λ (rule : RuleRows). rule.stores) rules) askers
   pub negated_served : AllByRecursion (AreNegatedServed came places alpha) rules
   pub negated_askers_are : AreAskers (negated_in rules) negated_askers
+
+-- the levels of each rule are those of the memory
+abbrev pub AreAllRight : Network → Type 0
+AreAllRight network =
+    (number : ℕ) (kept : RuleRows) → slice_get network.rules number ≡ Some kept → AreLevels (joins_of kept.joins.positives) network.arrivals.came network.arrivals.places (rows_of kept.levels)
+
+-- each rule has a level for each of its positive condition elements
+abbrev pub AllHaveLevels : Network → Type 0
+AllHaveLevels network = (number : ℕ) (kept : RuleRows) → slice_get network.rules number ≡ Some kept → length kept.levels ≡ length kept.joins.positives
 
 -- the joins of all rules
 abbrev pub joins_in : List RuleRows → List Joins

@@ -10,7 +10,7 @@ ghost use Rattle.match_network.specs.Arrivals.{has_tag, with_arrival, without_ta
 ghost use Rattle.match_network.specs.Conditions.{joins_of, rows_of};
 ghost use Rattle.match_network.specs.Levels.{AreLevels};
 ghost use Rattle.match_network.specs.Negated.{IsWholeRow, blockers_tried, blocks, whole_rows};
-ghost use Rattle.match_network.specs.Network.{joins_in};
+ghost use Rattle.match_network.specs.Network.{AllHaveLevels, AreAllRight, joins_in};
 ghost use Rattle.match_network.specs.Row.{elements_of};
 ghost use Rattle.match_network.specs.Rules.{AreCompiled, RuleRows};
 ghost use Rattle.match_network.specs.Touched.{AllGrow, AreNegatedDue, OthersStay};
@@ -140,10 +140,12 @@ impl Network {
 
     /// What is kept of each rule is right, as `rule` tells of one. It does nothing.
     pub fn all_are_right(&self)
-        ensures right { (number : ℕ) (kept : RuleRows) → slice_get self.now.rules number ≡ Some kept
-            → AreLevels (joins_of kept.joins.positives) self.now.arrivals.came self.now.arrivals.places (rows_of kept.levels) }
-        ensures levels { (number : ℕ) (kept : RuleRows) → slice_get self.now.rules number ≡ Some kept → length kept.levels ≡ length kept.joins.positives }
-    {}
+        ensures right { AreAllRight self.now }
+        ensures levels { AllHaveLevels self.now }
+    {
+        // What the type keeps is known only where a field is named.
+        let _ = &self.arrivals;
+    }
 
     /// The place of the element with this tag in working memory, if it is there. It takes as much time as
     /// `remove`.
@@ -155,15 +157,16 @@ impl Network {
         self.arrivals.place_of(tag)
     }
 
-    /// The positive condition elements that the last element passed, each once. Their rules alone were
-    /// touched.
+    /// The positive condition elements that the last element to be added passed. No other rules were
+    /// touched. After want of memory some may be missing, and their rules are as before.
     pub fn due(&self) -> &[Asker]
         ensures { result.now ≡ self.now.due }
     {
         self.set.due.as_slice()
     }
 
-    /// The negated condition elements that the last element passed, each once.
+    /// The negated condition elements that the last element to be added passed. After want of memory some
+    /// may be missing.
     pub fn negated_due(&self) -> &[Asker]
         ensures { result.now ≡ self.now.negated_due }
     {

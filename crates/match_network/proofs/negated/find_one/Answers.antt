@@ -1,6 +1,5 @@
 -- All that has the key is in the bucket.
-use Rattle.std.proofs.Common.{◌≡◌, ℕ, ◌+◌, ◌≤◌, List, false, refl, reverse, rules, subst, sym, take, true, ◌∙◌}
-use Rattle.std.specs.List.{list_any}
+use Rattle.std.proofs.Common.{◌≡◌, ℕ, ◌+◌, ◌≤◌, List, refl, reverse, rules, subst, sym, true}
 use Rattle.rule_base.specs.Numbers.{has_number}
 use Rattle.hash_buckets.specs.Buckets.{numbers_of}
 use Rattle.match_network.specs.Conditions.{entries_at}

@@ -31,3 +31,11 @@ returns-in-Err-clause-grows g c =
     let left = c.remove.new.self in
     subst (λ (n : Network). AllGrow left.came (length n.arrivals.came) n.rules after) c.self.view_is
     (grow_undone c.insert.new.self left (element_in c.args.element).tag c.in_ok-place.place (length inside.arrivals.came) inside.set.rules.items after c.remove.ensures.left c.in_ok-place.ensures.place c.take_in.ensures.grows)
+
+pub returns-clause-grows : goal.returns-clause-grows
+returns-clause-grows g c =
+    let inside = c.self.inside in
+    let now = c.insert.new.self in
+    let after = c.take_in.new.self.rules.items in
+    subst (λ (n : Network). AllGrow now.came (length n.arrivals.came) n.rules after) c.self.view_is
+    (subst (λ p. AllGrow now.came p inside.set.rules.items after) c.in_ok-place.ensures.place c.take_in.ensures.grows)

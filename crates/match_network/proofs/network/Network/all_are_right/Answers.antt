@@ -1,14 +1,15 @@
 -- Each is right, since all are.
-use Rattle.rule_base.proofs.EachLemmas.{Each-slice_get}
-use Rattle.match_network.specs.Rules.{IsRight}
+use Rattle.std.proofs.Common.{subst}
+use Rattle.match_network.specs.Network.{AllHaveLevels, AreAllRight}
+use Rattle.match_network.proofs.TellLemmas.{each_has_levels, each_is_right}
 use Rattle.match_network.proofs.network.Network.all_are_right.Goals as goal
 
 pub returns-clause-right : goal.returns-clause-right
-returns-clause-right c number kept there =
+returns-clause-right c =
     let inside = c.self.inside in
-    (Each-slice_get (IsRight inside.arrivals.came inside.arrivals.places inside.set.alpha) inside.set.rules.items number kept c.self.invariant.right there).right
+    subst AreAllRight c.self.view_is (each_is_right inside.arrivals.came inside.arrivals.places inside.set.alpha inside.set.rules.items c.self.invariant.right)
 
 pub returns-clause-levels : goal.returns-clause-levels
-returns-clause-levels c number kept there =
+returns-clause-levels c =
     let inside = c.self.inside in
-    (Each-slice_get (IsRight inside.arrivals.came inside.arrivals.places inside.set.alpha) inside.set.rules.items number kept c.self.invariant.right there).filed.count
+    subst AllHaveLevels c.self.view_is (each_has_levels inside.arrivals.came inside.arrivals.places inside.set.alpha inside.set.rules.items c.self.invariant.right)
