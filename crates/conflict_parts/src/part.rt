@@ -181,7 +181,7 @@ fn take_in<L: Ledger>(
     ensures came { OnErr result ((network.new.arrivals.came ≡ network.old.arrivals.came)
         ⊎ (network.new.arrivals.came ≡ network.old.arrivals.came ++ element_in element.entry ∷ [])) }
     ensures grown { HasGrown network.old network.new (element_in element.entry) }
-    ensures undone { OnOk result ((left : Arrivals) → left ≡ without_tag network.new.arrivals element.tag → left.places ≡ network.old.arrivals.places) }
+    ensures undone { OnOk result ((left : Arrivals) → left ≡ without_tag network.new.arrivals element.entry.tag → left.places ≡ network.old.arrivals.places) }
 {
     // What these tell is known of the network before, and then of the one after.
     network.all_are_right();
