@@ -1,6 +1,6 @@
 -- What is kept of full matches goes with the network, after each change.
-use Rattle.std.proofs.Common.{◌≡◌, ◌≢◌, ◌⊎◌, inl, inr, ℕ, ◌<◌, ◌≤◌, ◌==◌, ◌||◌, List, [], ◌∷◌, ◌++◌, Bool, true, false, cond, not, replicate, Option, None, Some, filter, length, map, option_map, slice_get, slice_index_or, refl, ap, arith, subst, sym, ◌∙◌}
-use Rattle.std.specs.List.{AllByRecursion, list_any}
+use Rattle.std.proofs.Common.{◌≡◌, ◌≢◌, ◌⊎◌, inl, inr, ℕ, ◌<◌, ◌==◌, ◌||◌, List, [], ◌∷◌, ◌++◌, Bool, true, false, cond, not, replicate, Option, None, Some, filter, length, map, option_map, slice_get, slice_index_or, refl, ap, arith, subst, sym, ◌∙◌}
+use Rattle.std.specs.List.{list_any}
 use Rattle.std.specs.Option.{option_map_or}
 use Rattle.std.proofs.lemmas.Bool.{and_from, cases_Bool, cases_lt, eq-eqb, not_from_false, or_left, or_right}
 use Rattle.std.proofs.lemmas.List.{get_or-replicate, get_or_past, length-replicate, map-append}
@@ -9,9 +9,7 @@ use Rattle.std.proofs.lemmas.List.Folds.{list_any-append}
 use Rattle.std.proofs.lemmas.Option.{slice_get_within}
 use Rattle.rule_base.specs.declared.element.Element.{Element}
 use Rattle.rule_base.specs.Numbers.{has_number}
-use Rattle.join_tests.specs.declared.joins.Joins.{Joins}
 use Rattle.match_network.specs.Arrivals.{Arrivals, has_tag, without_tag}
-use Rattle.match_network.specs.Levels.{HaveCome}
 use Rattle.match_network.specs.Negated.{blocks, whole_rows}
 use Rattle.match_network.specs.Network.{Network}
 use Rattle.match_network.specs.Row.{is_living}
@@ -28,7 +26,7 @@ use Rattle.conflict_parts.specs.Queue.{IsNowOpen, IsOpened, has_waiter, is_queue
 use Rattle.conflict_parts.specs.Standings.{has_fired, is_marked, standing_at, with_set}
 use Rattle.conflict_parts.specs.Waiters.{waiters_at}
 use Rattle.conflict_parts.proofs.QueueLemmas.{opened_none, queued-before, same_row-here, same_row-is}
-use Rattle.conflict_parts.proofs.RowLemmas.{blocked_not_free, filter_has, full_row-same, has-more, living-below, living-filter, living-has, still_blocked}
+use Rattle.conflict_parts.proofs.RowLemmas.{blocked_not_free, filter_has, has-more, living-below, living-filter, living-has, still_blocked}
 use Rattle.conflict_parts.proofs.StandingLemmas.{length-with_set, lengths-with_set, with_set-other, with_set-same}
 
 -- somebody stands where there is a number for him
@@ -86,8 +84,8 @@ set_cases ss id x rule row y is =
           inl (at.0, at.1, given (standing_at ss id.rule id.row) x y set)
       | inr differs ↦
           inr (sym (with_set-other ss id.rule id.row x rule row (λ rule_same row_same.
-              let here = and_from (id.rule == rule) (id.row == row) (eq-eqb id.rule rule rule_same) (eq-eqb id.row row row_same) in
-              absurd (let wrong : ⊥ = cc in wrong))) ∙ is)
+          let here = and_from (id.rule == rule) (id.row == row) (eq-eqb id.rule rule rule_same) (eq-eqb id.row row row_same) in
+          absurd (let wrong : ⊥ = cc in wrong))) ∙ is)
     ]
   where
     given : (found : Option Standing) (x y : Standing) → option_map (λ (old : Standing). x) found ≡ Some y → x ≡ y
@@ -95,9 +93,9 @@ set_cases ss id x rule row y is =
     given (Some old) x y is = cc
 
 pub part_set : (network : Network) (ss : List (List Standing)) (queue : List RowId) (waiters more : List (ℕ × RowId)) (id : RowId) (x : Standing) → IsPart network ss queue waiters → (x ≡ Open → ⊥) →
-  ((place : ℕ) (rule row : ℕ) → has_waiter waiters place rule row ≡ true → has_waiter more place rule row ≡ true) →
-  ((place : ℕ) (row : List ℕ) → x ≡ Waiting place → IsLivingRow network id.rule id.row row → IsBlockedAt network id.rule row place × (has_waiter more place id.rule id.row ≡ true)) →
-  IsPart network (with_set ss id.rule id.row x) queue more
+    ((place : ℕ) (rule row : ℕ) → has_waiter waiters place rule row ≡ true → has_waiter more place rule row ≡ true) →
+    ((place : ℕ) (row : List ℕ) → x ≡ Waiting place → IsLivingRow network id.rule id.row row → IsBlockedAt network id.rule row place × (has_waiter more place id.rule id.row ≡ true)) →
+    IsPart network (with_set ss id.rule id.row x) queue more
 part_set network ss queue waiters more id x held closed kept waits = record {
   count = length-with_set ss id.rule id.row x ∙ held.count;
   no_more = λ rule. omega (arith, held.no_more rule, lengths-with_set ss id.rule id.row x rule);
@@ -151,8 +149,8 @@ part_waits network ss queue waiters id place blocked held =
     part_set network ss queue waiters (waiters ++ (place, id) ∷ []) id (Waiting place) held (λ same. (let wrong : ⊥ = cc in wrong))
     (λ other rule row has. has_waiter-more waiters place id other rule row has)
     (λ other row same lives.
-        let there : place ≡ other = cc in
-        (subst (λ p. IsBlockedAt network id.rule row p) there (blocked row lives), subst (λ p. has_waiter (waiters ++ (place, id) ∷ []) p id.rule id.row ≡ true) there (has_waiter-last waiters place id)))
+    let there : place ≡ other = cc in
+    (subst (λ p. IsBlockedAt network id.rule row p) there (blocked row lives), subst (λ p. has_waiter (waiters ++ (place, id) ∷ []) p id.rule id.row ≡ true) there (has_waiter-last waiters place id)))
 
 -- one is marked
 pub part_marked : (network : Network) (ss : List (List Standing)) (queue : List RowId) (waiters : List (ℕ × RowId)) (id : RowId) → IsPart network ss queue waiters → IsPart network (with_set ss id.rule id.row Marked) queue waiters
@@ -173,8 +171,8 @@ marks_step ss id x rule row true is =
     mapped (Some old) = refl
 marks_step ss id x rule row false is =
     ap (λ (o : Option Standing). option_map_or has_fired o false) (with_set-other ss id.rule id.row x rule row (λ rule_same row_same.
-        let here = and_from (id.rule == rule) (id.row == row) (eq-eqb id.rule rule rule_same) (eq-eqb id.row row row_same) in
-        absurd (let wrong : ⊥ = cc in wrong)))
+    let here = and_from (id.rule == rule) (id.row == row) (eq-eqb id.rule rule rule_same) (eq-eqb id.row row row_same) in
+    absurd (let wrong : ⊥ = cc in wrong)))
 
 -- one that stood unmarked, and doesn't now
 unmarked_step : (ss : List (List Standing)) (id : RowId) (x y : Standing) (rule row : ℕ) (same : Bool) → same_row rule row id ≡ same → has_fired x ≡ false → has_fired y ≡ false → standing_at ss id.rule id.row ≡ Some y → is_marked (with_set ss id.rule id.row x) rule row ≡ is_marked ss rule row
@@ -223,7 +221,7 @@ pub record IsOpen (ss : List (List Standing)) (queue : List RowId) (rule number 
   pub queued : is_queued queue rule number ≡ true
 
 pub part_after : (old new : Network) (ss after : List (List Standing)) (before queue : List RowId) (waiters : List (ℕ × RowId)) → IsPart old ss before waiters → IsOpened ss before after queue → length new.rules ≡ length old.rules → AreNoMore new.rules after →
-  ((rule number : ℕ) (row : List ℕ) → IsLivingRow new rule number row → Stays old new after rule number row ⊎ IsOpen after queue rule number) → IsPart new after queue waiters
+    ((rule number : ℕ) (row : List ℕ) → IsLivingRow new rule number row → Stays old new after rule number row ⊎ IsOpen after queue rule number) → IsPart new after queue waiters
 part_after old new ss after before queue waiters held opened count no_more each = record {
   count = opened.count ∙ held.count ∙ sym count;
   no_more = no_more;
@@ -283,27 +281,27 @@ part_woken network ss after before queue waiters held opened lengths =
 
 -- an element came, and was dead at once
 pub part_undone : (old new left : Network) (e : Element) (ss after : List (List Standing)) (before queue : List RowId) (waiters : List (ℕ × RowId)) → HasGrown old new e → left.rules ≡ new.rules → left.arrivals.came ≡ new.arrivals.came → left.arrivals.places ≡ old.arrivals.places →
-  IsPart old ss before waiters → IsOpened ss before after queue → AreNoMore new.rules after → IsPart left after queue waiters
+    IsPart old ss before waiters → IsOpened ss before after queue → AreNoMore new.rules after → IsPart left after queue waiters
 part_undone old new left e ss after before queue waiters grown rules came places held opened no_more =
     part_after old left ss after before queue waiters held opened
     (ap (λ (rs : List RuleRows). length rs) rules ∙ grown.count)
     (subst (λ (rs : List RuleRows). AreNoMore rs after) (sym rules) no_more)
     (λ rule number row lives.
-        let lives_before : is_living old.arrivals.places row ≡ true = subst (λ ps. is_living ps row ≡ true) places lives.lives in
-        elim (grown.rows rule number row (ap (λ (rs : List RuleRows). full_row rs rule number) (sym rules) ∙ lives.is)) [
-          | inl was ↦ inl (record {
-              lived = record { is = was; lives = lives_before };
-              blocked = λ place at blocked. record {
-                there = ap (λ ps. has_number ps place) places ∙ blocked.there;
-                stands = λ kept at_rule.
-                    ap (λ (es : List Element). blocks kept.joins es row place) came
-                    ∙ still_blocked old new e rule number row place grown was blocked kept (ap (λ (rs : List RuleRows). slice_get rs rule) (sym rules) ∙ at_rule);
-              };
-            })
-          | inr further ↦
-              let there = living-has old.arrivals.places row (length old.arrivals.came) lives_before further.1 in
-              absurd (let lt : length old.arrivals.came < length old.arrivals.came = Each-has (λ p. p < length old.arrivals.came) old.arrivals.places (length old.arrivals.came) grown.below there in omega arith)
-        ])
+    let lives_before : is_living old.arrivals.places row ≡ true = subst (λ ps. is_living ps row ≡ true) places lives.lives in
+    elim (grown.rows rule number row (ap (λ (rs : List RuleRows). full_row rs rule number) (sym rules) ∙ lives.is)) [
+      | inl was ↦ inl (record {
+        lived = record { is = was; lives = lives_before };
+        blocked = λ place at blocked. record {
+          there = ap (λ ps. has_number ps place) places ∙ blocked.there;
+          stands = λ kept at_rule.
+              ap (λ (es : List Element). blocks kept.joins es row place) came
+              ∙ still_blocked old new e rule number row place grown was blocked kept (ap (λ (rs : List RuleRows). slice_get rs rule) (sym rules) ∙ at_rule);
+        };
+      })
+      | inr further ↦
+          let there = living-has old.arrivals.places row (length old.arrivals.came) lives_before further.1 in
+          absurd (let lt : length old.arrivals.came < length old.arrivals.came = Each-has (λ p. p < length old.arrivals.came) old.arrivals.places (length old.arrivals.came) grown.below there in omega arith)
+    ])
 
 pub no_more-longer : (old new : Network) (e : Element) (ss : List (List Standing)) → HasGrown old new e → AreNoMore old.rules ss → AreNoMore new.rules ss
 no_more-longer old new e ss grown no_more rule = omega (arith, no_more rule, grown.longer rule)
@@ -318,30 +316,30 @@ due_or_same due old new ss others covered rule =
 
 -- an element came
 pub part_grown : (old new : Network) (e : Element) (ss after : List (List Standing)) (before queue : List RowId) (waiters : List (ℕ × RowId)) → HasGrown old new e → new.arrivals.places ≡ old.arrivals.places ++ length old.arrivals.came ∷ [] →
-  IsPart old ss before waiters → IsOpened ss before after queue → AreNoMore new.rules after → ((rule : ℕ) → (slice_get new.rules rule ≡ slice_get old.rules rule) ⊎ IsCovered new.rules after rule) → IsPart new after queue waiters
+    IsPart old ss before waiters → IsOpened ss before after queue → AreNoMore new.rules after → ((rule : ℕ) → (slice_get new.rules rule ≡ slice_get old.rules rule) ⊎ IsCovered new.rules after rule) → IsPart new after queue waiters
 part_grown old new e ss after before queue waiters grown places held opened no_more each =
     part_after old new ss after before queue waiters held opened grown.count no_more
     (λ rule number row lives.
-        elim (grown.rows rule number row lives.is) [
-          | inl was ↦ inl (record {
-              lived = record { is = was; lives = living-below old.arrivals.places row (length old.arrivals.came) (grown.have_come rule number row was) (subst (λ ps. is_living ps row ≡ true) places lives.lives) };
-              blocked = λ place at blocked. record {
-                there = ap (λ ps. has_number ps place) places ∙ has-more old.arrivals.places (length old.arrivals.came) place blocked.there;
-                stands = λ kept at_rule. still_blocked old new e rule number row place grown was blocked kept at_rule;
-              };
-            })
-          | inr further ↦ inr (elim (each rule) [
-              | inl same ↦
-                  let was : full_row old.rules rule number ≡ Some row = ap (λ (found : Option RuleRows). slice_get (option_map_or whole_rows found []) number) (sym same) ∙ lives.is in
-                  absurd (omega (arith, slice_get_within (full_rows old.rules rule) number row was, further.0))
-              | inr covered ↦
-                  let stands = stands_at after rule number (omega (arith, slice_get_within (full_rows new.rules rule) number row lives.is, covered)) in
-                  elim (opened.each rule number) [
-                    | inl same ↦ absurd (omega (arith, stands_within ss rule number stands.standing (sym same ∙ stands.is), held.no_more rule, further.0))
-                    | inr now ↦ record { stands = now.stands; queued = now.queued }
-                  ]
-            ])
-        ])
+    elim (grown.rows rule number row lives.is) [
+      | inl was ↦ inl (record {
+        lived = record { is = was; lives = living-below old.arrivals.places row (length old.arrivals.came) (grown.have_come rule number row was) (subst (λ ps. is_living ps row ≡ true) places lives.lives) };
+        blocked = λ place at blocked. record {
+          there = ap (λ ps. has_number ps place) places ∙ has-more old.arrivals.places (length old.arrivals.came) place blocked.there;
+          stands = λ kept at_rule. still_blocked old new e rule number row place grown was blocked kept at_rule;
+        };
+      })
+      | inr further ↦ inr (elim (each rule) [
+        | inl same ↦
+            let was : full_row old.rules rule number ≡ Some row = ap (λ (found : Option RuleRows). slice_get (option_map_or whole_rows found []) number) (sym same) ∙ lives.is in
+            absurd (omega (arith, slice_get_within (full_rows old.rules rule) number row was, further.0))
+        | inr covered ↦
+            let stands = stands_at after rule number (omega (arith, slice_get_within (full_rows new.rules rule) number row lives.is, covered)) in
+            elim (opened.each rule number) [
+              | inl same ↦ absurd (omega (arith, stands_within ss rule number stands.standing (sym same ∙ stands.is), held.no_more rule, further.0))
+              | inr now ↦ record { stands = now.stands; queued = now.queued }
+            ]
+      ])
+    ])
 
 -- an element goes
 pub part_without : (old new : Network) (tag : ℕ) (ss : List (List Standing)) (queue : List RowId) (waiters : List (ℕ × RowId)) → new.arrivals ≡ without_tag old.arrivals tag → new.rules ≡ old.rules → NoneWaits old.arrivals tag ss waiters → IsPart old ss queue waiters → IsPart new ss queue waiters
@@ -353,23 +351,23 @@ part_without old new tag ss queue waiters arrivals rules none held =
     (ap (λ (rs : List RuleRows). length rs) rules)
     (subst (λ (rs : List RuleRows). AreNoMore rs ss) (sym rules) held.no_more)
     (λ rule number row lives.
-        let lived : IsLivingRow old rule number row = record {
-          is = ap (λ (rs : List RuleRows). full_row rs rule number) (sym rules) ∙ lives.is;
-          lives = living-filter keep old.arrivals.places row (subst (λ ps. is_living ps row ≡ true) places lives.lives);
-        } in
-        inl (record {
-          lived = lived;
-          blocked = λ place at blocked.
-              let stays : has_tag old.arrivals.came tag place ≡ false =
-              elim (cases_Bool (has_tag old.arrivals.came tag place)) [
-                | inl goes ↦ absurd (none rule number place blocked.there goes (held.noted rule number row place lived at) at)
-                | inr stays ↦ stays
-              ] in
-              record {
-                there = ap (λ ps. has_number ps place) places ∙ filter_has keep old.arrivals.places place blocked.there (not_from_false (has_tag old.arrivals.came tag place) stays);
-                stands = λ kept at_rule. ap (λ (es : List Element). blocks kept.joins es row place) came ∙ blocked.stands kept (ap (λ (rs : List RuleRows). slice_get rs rule) (sym rules) ∙ at_rule);
-              };
-        }))
+    let lived : IsLivingRow old rule number row = record {
+      is = ap (λ (rs : List RuleRows). full_row rs rule number) (sym rules) ∙ lives.is;
+      lives = living-filter keep old.arrivals.places row (subst (λ ps. is_living ps row ≡ true) places lives.lives);
+    } in
+    inl (record {
+      lived = lived;
+      blocked = λ place at blocked.
+          let stays : has_tag old.arrivals.came tag place ≡ false =
+          elim (cases_Bool (has_tag old.arrivals.came tag place)) [
+            | inl goes ↦ absurd (none rule number place blocked.there goes (held.noted rule number row place lived at) at)
+            | inr stays ↦ stays
+          ] in
+          record {
+            there = ap (λ ps. has_number ps place) places ∙ filter_has keep old.arrivals.places place blocked.there (not_from_false (has_tag old.arrivals.came tag place) stays);
+            stands = λ kept at_rule. ap (λ (es : List Element). blocks kept.joins es row place) came ∙ blocked.stands kept (ap (λ (rs : List RuleRows). slice_get rs rule) (sym rules) ∙ at_rule);
+          };
+    }))
 
 -- there are no elements yet
 nobody : (count rule row : ℕ) → standing_at (replicate count []) rule row ≡ None
@@ -397,6 +395,7 @@ part_new network none ss count before queue waiters none_is count_is opened cove
               absurd (let wrong : ⊥ = cc in wrong)
           | inr now ↦ now
         ]
+
     clash : (rule number place : ℕ) → standing_at ss rule number ≡ Some Open → standing_at ss rule number ≡ Some (Waiting place) → ⊥
     clash rule number place stands waits =
         let both : Some Open ≡ Some (Waiting place) = sym stands ∙ waits in

@@ -1,5 +1,5 @@
 -- Who stands open and is in the queue, after one change more.
-use Rattle.std.proofs.Common.{◌≡◌, ◌≢◌, ◌⊎◌, inl, inr, ℕ, ◌+◌, ◌-◌, ◌<◌, ◌==◌, ◌&&◌, ◌||◌, List, [], ◌∷◌, ◌++◌, Bool, true, false, Option, None, Some, Result, Ok, Err, cond, filter, length, map, reverse, slice_get, slice_index_or, take, zero, suc, refl, ap, arith, subst, sym, ◌∙◌}
+use Rattle.std.proofs.Common.{◌≡◌, ◌≢◌, ◌⊎◌, inl, inr, ℕ, ◌+◌, ◌-◌, ◌<◌, ◌==◌, List, [], ◌∷◌, ◌++◌, Bool, true, false, Option, None, Some, Result, Ok, Err, length, reverse, slice_get, slice_index_or, take, zero, suc, refl, ap, arith, subst, sym, ◌∙◌}
 use Rattle.std.specs.List.{list_any}
 use Rattle.std.specs.Result.{OnErr, OnOk}
 use Rattle.std.specs.Option.{option_map, option_map_or}
@@ -10,11 +10,11 @@ use Rattle.std.proofs.lemmas.Option.{slice_get_within}
 use Rattle.match_network.proofs.ComeLemmas.{some_at}
 use Rattle.conflict_parts.specs.declared.standing.RowId.{RowId}
 use Rattle.conflict_parts.specs.declared.standing.Standing.{Standing}
-use Rattle.conflict_parts.specs.declared.standing.Standing.TheVariants.{Marked, Open, Waiting}
-use Rattle.conflict_parts.specs.Queue.{IsNowOpen, IsOpened, has_waiter, is_queued, same_row}
+use Rattle.conflict_parts.specs.declared.standing.Standing.TheVariants.{Open, Waiting}
+use Rattle.conflict_parts.specs.Queue.{IsOpened, has_waiter, is_queued, same_row}
 use Rattle.conflict_parts.specs.Waiters.{waiters_at}
 use Rattle.conflict_parts.specs.Standings.{has_fired, is_marked, standing_at, with_set, with_standing}
-use Rattle.conflict_parts.proofs.StandingLemmas.{length-with_set, length-with_standing, lengths-with_set, standing_at-past_row, with_set-other, with_set-same, with_standing-last, with_standing-other}
+use Rattle.conflict_parts.proofs.StandingLemmas.{length-with_set, length-with_standing, standing_at-past_row, with_set-other, with_set-same, with_standing-last, with_standing-other}
 
 -- the numbers of one full match
 pub same_row-is : (rule row : ℕ) (id : RowId) → same_row rule row id ≡ true → (id.rule ≡ rule) × (id.row ≡ row)
@@ -92,8 +92,8 @@ opened_one ss queue rule id lt rule_is row_is = record {
             })
         | inr differs ↦
             inl (with_standing-other ss rule Open other number lt (λ rule_same row_same.
-                let here = and_from (id.rule == other) (id.row == number) (eq-eqb id.rule other (rule_is ∙ rule_same)) (eq-eqb id.row number (row_is ∙ sym row_same)) in
-                absurd (let wrong : ⊥ = cc in wrong)))
+            let here = and_from (id.rule == other) (id.row == number) (eq-eqb id.rule other (rule_is ∙ rule_same)) (eq-eqb id.row number (row_is ∙ sym row_same)) in
+            absurd (let wrong : ⊥ = cc in wrong)))
       ];
   queued = λ other number is. queued-more queue (id ∷ []) other number is;
 }
@@ -121,8 +121,8 @@ opened_woken ss queue id place waits = record {
             })
         | inr differs ↦
             inl (with_set-other ss id.rule id.row Open other number (λ rule_same row_same.
-                let here = and_from (id.rule == other) (id.row == number) (eq-eqb id.rule other rule_same) (eq-eqb id.row number row_same) in
-                absurd (let wrong : ⊥ = cc in wrong)))
+            let here = and_from (id.rule == other) (id.row == number) (eq-eqb id.rule other rule_same) (eq-eqb id.row number row_same) in
+            absurd (let wrong : ⊥ = cc in wrong)))
       ];
   queued = λ other number is. queued-more queue (id ∷ []) other number is;
 }

@@ -1,5 +1,5 @@
 -- Full rows: which they are, and what stands in their way, as elements come.
-use Rattle.std.proofs.Common.{◌≡◌, ◌⊎◌, inl, inr, ℕ, ◌-◌, ◌<◌, ◌≤◌, ◌==◌, List, [], ◌∷◌, ◌++◌, Bool, true, false, cond, Option, None, Some, Result, Ok, Err, filter, length, length-append, map, option_map, slice_get, take, zero, suc, refl, ap, arith, subst, sym, ◌∙◌}
+use Rattle.std.proofs.Common.{◌≡◌, ◌⊎◌, inl, inr, ℕ, ◌-◌, ◌<◌, ◌≤◌, ◌==◌, List, [], ◌∷◌, ◌++◌, Bool, true, false, cond, Option, None, Some, Result, Ok, Err, filter, length, length-append, option_map, slice_get, take, zero, suc, refl, ap, arith, subst, sym, ◌∙◌}
 use Rattle.std.specs.List.{AllByRecursion, list_all, list_any}
 use Rattle.std.specs.Option.{option_map_or}
 use Rattle.std.specs.Result.{OnErr, OnOk}
@@ -104,18 +104,18 @@ either_part (y ∷ xs) more (suc i) x at =
 
 -- the whole rows of a rule that has grown
 whole_grows : (old new : Network) (rule : ℕ) (before after : RuleRows) → slice_get old.rules rule ≡ Some before → slice_get new.rules rule ≡ Some after → length after.levels ≡ length before.levels →
-  AllGrow new.arrivals.came (length old.arrivals.came) old.rules new.rules →
-  (more : List (List ℕ)) × (whole_rows after ≡ whole_rows before ++ more) × AllByRecursion (λ row. HaveCome new.arrivals.came row × (has_number row (length old.arrivals.came) ≡ true)) more
+    AllGrow new.arrivals.came (length old.arrivals.came) old.rules new.rules →
+    (more : List (List ℕ)) × (whole_rows after ≡ whole_rows before ++ more) × AllByRecursion (λ row. HaveCome new.arrivals.came row × (has_number row (length old.arrivals.came) ≡ true)) more
 whole_grows old new rule before after at now long grows =
     let adds = grows rule before after at now (length before.levels) in
     (adds.0, ap (rows_of after.levels) long ∙ adds.1, adds.2)
 
 -- so the full rows keep their numbers, and each further one has the place
 pub rows_grow : (old new : Network) → joins_in new.rules ≡ joins_in old.rules → AllGrow new.arrivals.came (length old.arrivals.came) old.rules new.rules →
-  ((number : ℕ) (kept : RuleRows) → slice_get old.rules number ≡ Some kept → length kept.levels ≡ length kept.joins.positives) →
-  ((number : ℕ) (kept : RuleRows) → slice_get new.rules number ≡ Some kept → length kept.levels ≡ length kept.joins.positives) →
-  (rule number : ℕ) (row : List ℕ) → full_row new.rules rule number ≡ Some row →
-  (full_row old.rules rule number ≡ Some row) ⊎ ((length (full_rows old.rules rule) ≤ number) × (has_number row (length old.arrivals.came) ≡ true))
+    ((number : ℕ) (kept : RuleRows) → slice_get old.rules number ≡ Some kept → length kept.levels ≡ length kept.joins.positives) →
+    ((number : ℕ) (kept : RuleRows) → slice_get new.rules number ≡ Some kept → length kept.levels ≡ length kept.joins.positives) →
+    (rule number : ℕ) (row : List ℕ) → full_row new.rules rule number ≡ Some row →
+    (full_row old.rules rule number ≡ Some row) ⊎ ((length (full_rows old.rules rule) ≤ number) × (has_number row (length old.arrivals.came) ≡ true))
 rows_grow old new joins_are grows long_old long_new rule number row is =
     let whole = whole_of new.rules rule number row is in
     let before = before_of old.rules new.rules rule whole.kept joins_are whole.is.rule_is in
@@ -126,14 +126,16 @@ rows_grow old new joins_are grows long_old long_new rule number row is =
     elim (either_part (whole_rows before.kept) grown.0 number row (ap (λ (rows : List (List ℕ)). slice_get rows number) (sym grown.1) ∙ whole.is.row_is)) [
       | inl here ↦ inl (ap (λ (rows : List (List ℕ)). slice_get rows number) old_rows ∙ here)
       | inr past ↦
-          inr (omega (arith, past.0, ap (λ (rows : List (List ℕ)). length rows) old_rows),
-          (Each-slice_get (λ (r : List ℕ). HaveCome new.arrivals.came r × (has_number r (length old.arrivals.came) ≡ true)) grown.0 (number - length (whole_rows before.kept)) row grown.2 past.1).1)
+          inr (
+            omega (arith, past.0, ap (λ (rows : List (List ℕ)). length rows) old_rows),
+            (Each-slice_get (λ (r : List ℕ). HaveCome new.arrivals.came r × (has_number r (length old.arrivals.came) ≡ true)) grown.0 (number - length (whole_rows before.kept)) row grown.2 past.1).1,
+          )
     ]
 
 longer_step : (old new : Network) → joins_in new.rules ≡ joins_in old.rules → AllGrow new.arrivals.came (length old.arrivals.came) old.rules new.rules →
-  ((number : ℕ) (kept : RuleRows) → slice_get old.rules number ≡ Some kept → length kept.levels ≡ length kept.joins.positives) →
-  ((number : ℕ) (kept : RuleRows) → slice_get new.rules number ≡ Some kept → length kept.levels ≡ length kept.joins.positives) →
-  (rule : ℕ) (found : Option RuleRows) → slice_get old.rules rule ≡ found → length (option_map_or whole_rows found []) ≤ length (full_rows new.rules rule)
+    ((number : ℕ) (kept : RuleRows) → slice_get old.rules number ≡ Some kept → length kept.levels ≡ length kept.joins.positives) →
+    ((number : ℕ) (kept : RuleRows) → slice_get new.rules number ≡ Some kept → length kept.levels ≡ length kept.joins.positives) →
+    (rule : ℕ) (found : Option RuleRows) → slice_get old.rules rule ≡ found → length (option_map_or whole_rows found []) ≤ length (full_rows new.rules rule)
 longer_step old new joins_are grows long_old long_new rule None at = omega arith
 longer_step old new joins_are grows long_old long_new rule (Some kept) at =
     let after = before_of new.rules old.rules rule kept (sym joins_are) at in
@@ -143,15 +145,15 @@ longer_step old new joins_are grows long_old long_new rule (Some kept) at =
     omega (arith, ap (λ (rows : List (List ℕ)). length rows) (full_rows-kept new.rules rule after.kept after.is), ap (λ (rows : List (List ℕ)). length rows) grown.1, length-append (whole_rows kept) grown.0)
 
 pub rows_longer : (old new : Network) → joins_in new.rules ≡ joins_in old.rules → AllGrow new.arrivals.came (length old.arrivals.came) old.rules new.rules →
-  ((number : ℕ) (kept : RuleRows) → slice_get old.rules number ≡ Some kept → length kept.levels ≡ length kept.joins.positives) →
-  ((number : ℕ) (kept : RuleRows) → slice_get new.rules number ≡ Some kept → length kept.levels ≡ length kept.joins.positives) →
-  (rule : ℕ) → length (full_rows old.rules rule) ≤ length (full_rows new.rules rule)
+    ((number : ℕ) (kept : RuleRows) → slice_get old.rules number ≡ Some kept → length kept.levels ≡ length kept.joins.positives) →
+    ((number : ℕ) (kept : RuleRows) → slice_get new.rules number ≡ Some kept → length kept.levels ≡ length kept.joins.positives) →
+    (rule : ℕ) → length (full_rows old.rules rule) ≤ length (full_rows new.rules rule)
 rows_longer old new joins_are grows long_old long_new rule = longer_step old new joins_are grows long_old long_new rule (slice_get old.rules rule) refl
 
 -- the elements of full rows came
 pub rows_came : (network : Network) →
-  ((number : ℕ) (kept : RuleRows) → slice_get network.rules number ≡ Some kept → AreLevels (joins_of kept.joins.positives) network.arrivals.came network.arrivals.places (rows_of kept.levels)) →
-  (rule number : ℕ) (row : List ℕ) → full_row network.rules rule number ≡ Some row → HaveCome network.arrivals.came row
+    ((number : ℕ) (kept : RuleRows) → slice_get network.rules number ≡ Some kept → AreLevels (joins_of kept.joins.positives) network.arrivals.came network.arrivals.places (rows_of kept.levels)) →
+    (rule number : ℕ) (row : List ℕ) → full_row network.rules rule number ≡ Some row → HaveCome network.arrivals.came row
 rows_came network right rule number row is =
     let whole = whole_of network.rules rule number row is in
     Each-slice_get (HaveCome network.arrivals.came) (whole_rows whole.kept) number row ((right rule whole.kept whole.is.rule_is).have_come (length whole.kept.levels)) whole.is.row_is
@@ -254,12 +256,12 @@ came_either (Ok x) old new e ok err = inr (ap (λ (a : Arrivals). a.came) ok)
 came_either (Err x) old new e ok err = err
 
 pub grown-from : {E : Type 0} (r : Result (Unit {0}) E) (old new : Network) (e : Element) →
-  ((number : ℕ) (kept : RuleRows) → slice_get old.rules number ≡ Some kept → AreLevels (joins_of kept.joins.positives) old.arrivals.came old.arrivals.places (rows_of kept.levels)) →
-  ((number : ℕ) (kept : RuleRows) → slice_get old.rules number ≡ Some kept → length kept.levels ≡ length kept.joins.positives) →
-  ((number : ℕ) (kept : RuleRows) → slice_get new.rules number ≡ Some kept → length kept.levels ≡ length kept.joins.positives) →
-  AllByRecursion (λ p. p < length old.arrivals.came) old.arrivals.places →
-  joins_in new.rules ≡ joins_in old.rules → AllGrow new.arrivals.came (length old.arrivals.came) old.rules new.rules →
-  OnOk r (new.arrivals ≡ with_arrival old.arrivals e) → OnErr r ((new.arrivals.came ≡ old.arrivals.came) ⊎ (new.arrivals.came ≡ old.arrivals.came ++ e ∷ [])) → HasGrown old new e
+    ((number : ℕ) (kept : RuleRows) → slice_get old.rules number ≡ Some kept → AreLevels (joins_of kept.joins.positives) old.arrivals.came old.arrivals.places (rows_of kept.levels)) →
+    ((number : ℕ) (kept : RuleRows) → slice_get old.rules number ≡ Some kept → length kept.levels ≡ length kept.joins.positives) →
+    ((number : ℕ) (kept : RuleRows) → slice_get new.rules number ≡ Some kept → length kept.levels ≡ length kept.joins.positives) →
+    AllByRecursion (λ p. p < length old.arrivals.came) old.arrivals.places →
+    joins_in new.rules ≡ joins_in old.rules → AllGrow new.arrivals.came (length old.arrivals.came) old.rules new.rules →
+    OnOk r (new.arrivals ≡ with_arrival old.arrivals e) → OnErr r ((new.arrivals.came ≡ old.arrivals.came) ⊎ (new.arrivals.came ≡ old.arrivals.came ++ e ∷ [])) → HasGrown old new e
 grown-from r old new e right long_old long_new below joins_are grows ok err = record {
   count = sym (length-map new.rules (λ (r : RuleRows). r.joins)) ∙ ap (λ (js : List Joins). length js) joins_are ∙ length-map old.rules (λ (r : RuleRows). r.joins);
   joins = joins_are;
@@ -272,7 +274,7 @@ grown-from r old new e right long_old long_new below joins_are grows ok err = re
 
 -- the element that came is taken out again
 pub undone-from : {E : Type 0} (r : Result (Unit {0}) E) (old new : Network) (e : Element) → AllByRecursion (λ p. p < length old.arrivals.came) old.arrivals.places → Rises (tags_of old.arrivals.came) → AllByRecursion (λ (f : Element). f.tag < e.tag) old.arrivals.came →
-  OnOk r (new.arrivals ≡ with_arrival old.arrivals e) → OnOk r ((left : Arrivals) → left ≡ without_tag new.arrivals e.tag → left.places ≡ old.arrivals.places)
+    OnOk r (new.arrivals ≡ with_arrival old.arrivals e) → OnOk r ((left : Arrivals) → left ≡ without_tag new.arrivals e.tag → left.places ≡ old.arrivals.places)
 undone-from (Ok x) old new e below tags above ok = λ left is.
     places_undone old.arrivals new.arrivals left e below ok (subst (λ (a : Arrivals). Rises (tags_of a.came)) (sym ok) (tags-push old.arrivals.came e tags above)) is
 undone-from (Err x) old new e below tags above ok = tt

@@ -1,11 +1,11 @@
 -- Those who wait at places, by their numbers.
-use Rattle.std.proofs.Common.{◌≡◌, ℕ, ◌<◌, ◌==◌, List, [], ◌∷◌, ◌++◌, Bool, true, false, cond, filter, length, map, reverse, slice_index_or, zero, suc, refl, ap, arith, subst, sym, ◌∙◌}
+use Rattle.std.proofs.Common.{◌≡◌, ℕ, ◌<◌, ◌==◌, List, [], ◌∷◌, ◌++◌, Bool, true, false, cond, filter, length, map, reverse, zero, suc, refl, ap, arith, subst, sym, ◌∙◌}
 use Rattle.std.specs.List.{AllByRecursion}
 use Rattle.std.proofs.lemmas.List.{map-append, reverse-append}
 use Rattle.hash_buckets.specs.Buckets.{numbers_of}
 use Rattle.match_network.proofs.SoFarLemmas.{Each-bucket}
 use Rattle.conflict_parts.specs.declared.standing.RowId.{RowId}
-use Rattle.conflict_parts.specs.Waiters.{AreWithin, id_at, no_id, waiters_at, waiters_of}
+use Rattle.conflict_parts.specs.Waiters.{AreWithin, id_at, waiters_at, waiters_of}
 
 -- the full match with a number stays, and the last one has the next
 id_at-more : (ids : List RowId) (number : ℕ) (more : List RowId) → number < length ids → id_at (ids ++ more) number ≡ id_at ids number

@@ -1,5 +1,5 @@
 -- How full matches stand: a list for each rule, by the numbers of its full rows.
-use Rattle.std.specs.Prelude.{◌≡◌, ℕ, List, [], ◌∷◌, ◌++◌, Bool, true, false, Option, slice_get, slice_index_or, slice_set}
+use Rattle.std.specs.Prelude.{ℕ, List, [], ◌∷◌, ◌++◌, Bool, true, false, Option, slice_get, slice_index_or, slice_set}
 use Rattle.std.specs.Option.{option_map_or}
 use Rattle.conflict_parts.specs.declared.standing.Standing.{Standing}
 use Rattle.conflict_parts.specs.declared.standing.Standing.TheVariants.{Marked, Open, Waiting}

@@ -1,5 +1,5 @@
 -- Who waits at which place.
-use Rattle.std.specs.Prelude.{◌≡◌, ℕ, ◌<◌, ◌==◌, List, filter, length, map, slice_index_or}
+use Rattle.std.specs.Prelude.{ℕ, ◌<◌, ◌==◌, List, filter, length, map, slice_index_or}
 use Rattle.std.specs.List.{AllByRecursion}
 use Rattle.conflict_parts.specs.declared.standing.RowId.{RowId}
 

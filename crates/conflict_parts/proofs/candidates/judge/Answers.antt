@@ -1,7 +1,5 @@
 -- One that something stands in the way of waits for it.
-use Rattle.std.proofs.Common.{◌≡◌, ◌<◌, ◌++◌, ◌∷◌, [], List, ℕ, Some, ap, length, refl, slice_get, subst, sym, ◌∙◌}
-use Rattle.std.proofs.lemmas.Option.{slice_get_within}
-use Rattle.match_network.specs.Negated.{whole_rows}
+use Rattle.std.proofs.Common.{◌≡◌, List, ℕ, Some, refl, subst, sym, ◌∙◌}
 use Rattle.match_network.specs.Network.{Network}
 use Rattle.conflict_parts.specs.declared.standing.RowId.{RowId}
 use Rattle.conflict_parts.specs.declared.standing.Standing.{Standing}

@@ -1,5 +1,5 @@
 -- The last of the queue is a candidate, or is dropped.
-use Rattle.std.proofs.Common.{◌≡◌, ◌-◌, [], List, None, Some, length, rules, slice_get, subst, sym, ◌∙◌}
+use Rattle.std.proofs.Common.{◌≡◌, ◌-◌, List, None, Some, length, rules, slice_get, subst, ◌∙◌}
 use Rattle.conflict_parts.specs.declared.standing.RowId.{RowId}
 use Rattle.conflict_parts.specs.Part.{IsPart}
 use Rattle.conflict_parts.proofs.PartLemmas.{part_dropped, part_none}

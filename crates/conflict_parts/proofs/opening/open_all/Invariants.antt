@@ -1,5 +1,5 @@
 -- The rules so far.
-use Rattle.std.proofs.Common.{◌≡◌, ◌<◌, ℕ, length}
+use Rattle.std.proofs.Common.{◌<◌, ℕ}
 use Rattle.conflict_parts.specs.Change.{HasOpened, IsCovered}
 use Rattle.conflict_parts.proofs.opening.open_all.Given as goal
 

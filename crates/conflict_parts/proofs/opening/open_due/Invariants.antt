@@ -1,5 +1,5 @@
 -- The rules of those who were due so far.
-use Rattle.std.proofs.Common.{◌≡◌, ℕ, length, take, true}
+use Rattle.std.proofs.Common.{◌≡◌, ℕ, take, true}
 use Rattle.std.specs.List.{list_any}
 use Rattle.match_network.specs.Touched.{is_of}
 use Rattle.conflict_parts.specs.Change.{HasOpened, IsCovered}

@@ -1,5 +1,4 @@
 -- Nobody is left.
-use Rattle.std.proofs.Common.{rules}
 use Rattle.conflict_parts.proofs.QueueLemmas.{AreLeft-none}
 use Rattle.conflict_parts.proofs.queue.wake.Goals as goal
 

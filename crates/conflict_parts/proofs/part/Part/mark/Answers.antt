@@ -2,10 +2,9 @@
 use Rattle.std.proofs.Common.{◌≡◌, ◌||◌, List, subst, sym}
 use Rattle.conflict_parts.specs.declared.standing.RowId.{RowId}
 use Rattle.conflict_parts.specs.declared.standing.Standing.{Standing}
-use Rattle.conflict_parts.specs.declared.standing.Standing.TheVariants.{Marked}
 use Rattle.conflict_parts.specs.Part.{IsLivingRow, IsPart, Part}
 use Rattle.conflict_parts.specs.Queue.{same_row}
-use Rattle.conflict_parts.specs.Standings.{is_marked, with_set}
+use Rattle.conflict_parts.specs.Standings.{is_marked}
 use Rattle.conflict_parts.proofs.PartLemmas.{marks_marked, part_marked}
 use Rattle.conflict_parts.proofs.part.Part.mark.Goals as goal
 

@@ -1,6 +1,5 @@
 -- Those of the bucket.
-use Rattle.std.proofs.Common.{◌≡◌, ℕ, List, ap, reverse, ◌∙◌}
-use Rattle.hash_buckets.specs.Buckets.{numbers_of}
+use Rattle.std.proofs.Common.{ℕ, List, ap, reverse, ◌∙◌}
 use Rattle.conflict_parts.specs.declared.standing.RowId.{RowId}
 use Rattle.conflict_parts.specs.Waiters.{waiters_at}
 use Rattle.conflict_parts.proofs.WaiterLemmas.{walk_whole, walk_within}
