@@ -1,5 +1,5 @@
 -- What a network tells of what stands in the way of a row.
-use Rattle.std.proofs.Common.{◌≡◌, ℕ, ◌+◌, ◌≤◌, List, true, IfSome, None, Option, Some, refl, subst, sym, ◌∙◌, slice_get}
+use Rattle.std.proofs.Common.{◌≡◌, ℕ, ◌+◌, ◌≤◌, List, length, true, IfSome, None, Option, Some, refl, subst, sym, ◌∙◌, slice_get}
 use Rattle.std.specs.List.{AllByRecursion, list_all}
 use Rattle.rule_base.specs.declared.element.Element.{Element}
 use Rattle.rule_base.proofs.EachLemmas.{Each-slice_get, Each-weaker}
@@ -55,3 +55,6 @@ kept_steps rules rule number this came places before after there held kept row w
 -- what is right of all is right of each
 pub each_is_right : (came : List Element) (places : List ℕ) (alpha : List Store) (rules : List RuleRows) → AllByRecursion (IsRight came places alpha) rules → (number : ℕ) (kept : RuleRows) → slice_get rules number ≡ Some kept → AreLevels (joins_of kept.joins.positives) came places (rows_of kept.levels)
 each_is_right came places alpha rules all number kept there = (Each-slice_get (IsRight came places alpha) rules number kept all there).right
+
+pub each_has_levels : (came : List Element) (places : List ℕ) (alpha : List Store) (rules : List RuleRows) → AllByRecursion (IsRight came places alpha) rules → (number : ℕ) (kept : RuleRows) → slice_get rules number ≡ Some kept → length kept.levels ≡ length kept.joins.positives
+each_has_levels came places alpha rules all number kept there = (Each-slice_get (IsRight came places alpha) rules number kept all there).filed.count

@@ -32,6 +32,10 @@ abbrev pub AreAllRight : Network → Type 0
 AreAllRight network =
     (number : ℕ) (kept : RuleRows) → slice_get network.rules number ≡ Some kept → AreLevels (joins_of kept.joins.positives) network.arrivals.came network.arrivals.places (rows_of kept.levels)
 
+-- each rule has a level for each of its positive condition elements
+abbrev pub AllHaveLevels : Network → Type 0
+AllHaveLevels network = (number : ℕ) (kept : RuleRows) → slice_get network.rules number ≡ Some kept → length kept.levels ≡ length kept.joins.positives
+
 -- the joins of all rules
 abbrev pub joins_in : List RuleRows → List Joins
 joins_in rules = map (λ (rule : RuleRows). rule.joins) rules

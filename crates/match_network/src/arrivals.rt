@@ -1,7 +1,7 @@
 //! The elements that ever came, each at a place of its own, and which of them are in working memory. It
 //! knows no rules.
 
-ghost use Rattle.std.specs.Prelude.{◌≡◌, ℕ, ◌+◌, ◌<◌, ◌≤◌, ◌^◌, ◌==◌, false, true, IfOk, MatchOption, OnErr, OnOk, Some, filter, length, not, slice_get, [], ◌∷◌, ◌++◌};
+ghost use Rattle.std.specs.Prelude.{◌≡◌, ℕ, ◌+◌, ◌<◌, ◌≤◌, ◌^◌, ◌==◌, false, true, IfOk, MatchOption, OnErr, OnOk, Some, filter, length, not, slice_get, [], ◌∷◌, ◌++◌, IfSome};
 ghost use Rattle.std.specs.List.{AllByRecursion, list_any};
 ghost use Rattle.rule_base.specs.declared.element.Element.{Element};
 ghost use Rattle.rule_base.specs.Memory.{Rises, tags_of};
@@ -80,6 +80,20 @@ impl Arrivals {
     {
         let place = place_of(&self.elements, tag)?;
         if !take_out(&mut self.memory, place) {
+            return None;
+        }
+        Some(place as u32)
+    }
+
+    /// The place of the element with this tag, if it is in working memory. It takes as much time as
+    /// `remove`.
+    pub fn place_of(&self, tag: u64) -> Option<u32>
+        ensures found { MatchOption result (list_any (has_tag self.now.came tag) self.now.places ≡ false)
+            (λ place. (has_number self.now.places place ≡ true) × (has_tag self.now.came tag place ≡ true)) }
+        ensures only { IfSome result (λ place. (other : ℕ) → has_tag self.now.came tag other ≡ (other == place)) }
+    {
+        let place = place_of(&self.elements, tag)?;
+        if !self.memory.has(place) {
             return None;
         }
         Some(place as u32)

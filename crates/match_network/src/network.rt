@@ -1,6 +1,6 @@
 //! The match network of a program's rules.
 
-ghost use Rattle.std.specs.Prelude.{◌≡◌, ◌+◌, ◌<◌, ◌≤◌, ◌⊎◌, [], ◌∷◌, ◌++◌, IfOk, IfSome, OnErr, OnOk, Some, filter, length, map, slice_get, ℕ, List, MatchOption, None, false, true};
+ghost use Rattle.std.specs.Prelude.{◌≡◌, ◌+◌, ◌<◌, ◌≤◌, ◌⊎◌, [], ◌∷◌, ◌++◌, IfOk, IfSome, OnErr, OnOk, Some, filter, length, map, slice_get, ℕ, List, MatchOption, None, false, true, ◌==◌};
 ghost use Rattle.std.specs.List.{AllByRecursion, list_all, list_any};
 ghost use Rattle.rule_base.specs.declared.element.Element.{Element};
 ghost use Rattle.rule_base.specs.declared.program.Rule.{Rule};
@@ -12,10 +12,10 @@ ghost use Rattle.match_network.specs.Conditions.{joins_of, rows_of};
 ghost use Rattle.match_network.specs.JoinWork.{join_work_of};
 ghost use Rattle.match_network.specs.Full.{AreFullMatches, memory_of, tags_at};
 ghost use Rattle.match_network.specs.Levels.{AreLevels};
-ghost use Rattle.match_network.specs.Network.{joins_in, AreAllRight};
+ghost use Rattle.match_network.specs.Network.{joins_in, AreAllRight, AllHaveLevels};
 ghost use Rattle.match_network.specs.Row.{is_living, elements_of};
-ghost use Rattle.match_network.specs.Rules.{AreCompiled, RuleRows};
 ghost use Rattle.match_network.specs.Negated.{IsWholeRow, blockers_tried, blocks, whole_rows};
+ghost use Rattle.match_network.specs.Rules.{AreCompiled, RuleRows};
 ghost use Rattle.match_network.specs.Touched.{AllGrow, AreNegatedDue, OthersStay};
 
 use crate::rule_set::RuleSet;
@@ -166,9 +166,20 @@ impl Network {
     /// What is kept of each rule is right, as `rule` tells of one. It does nothing.
     pub fn all_are_right(&self)
         ensures right { AreAllRight self.now }
+        ensures levels { AllHaveLevels self.now }
     {
         // What the type keeps is known only where a field is named.
         let _ = &self.arrivals;
+    }
+
+    /// The place of the element with this tag in working memory, if it is there. It takes as much time as
+    /// `remove`.
+    pub fn place_of(&self, tag: u64) -> Option<u32>
+        ensures found { MatchOption result (list_any (has_tag self.now.arrivals.came tag) self.now.arrivals.places ≡ false)
+            (λ place. (has_number self.now.arrivals.places place ≡ true) × (has_tag self.now.arrivals.came tag place ≡ true)) }
+        ensures only { IfSome result (λ place. (other : ℕ) → has_tag self.now.arrivals.came tag other ≡ (other == place)) }
+    {
+        self.arrivals.place_of(tag)
     }
 
     /// The positive condition elements that the last element to be added passed. No other rules were

@@ -1,6 +1,6 @@
 //! What the network keeps of one rule.
 
-ghost use Rattle.std.specs.Prelude.{◌≡◌, ℕ, ◌+◌, ◌<◌, ◌≤◌, [], IfOk, IfSome, None, OnErr, OnOk, Some, length, slice_get, true, List};
+ghost use Rattle.std.specs.Prelude.{◌≡◌, ℕ, ◌+◌, ◌<◌, ◌≤◌, [], IfOk, IfSome, None, OnErr, OnOk, Some, length, slice_get, true, List, ◌^◌};
 ghost use Rattle.std.specs.List.{AllByRecursion, list_any, list_all};
 ghost use Rattle.rule_base.specs.Numbers.{has_number};
 ghost use Rattle.join_tests.specs.declared.joins.Join.{Join};
@@ -95,8 +95,20 @@ impl RuleLevels {
         }
     }
 
+    /// How many rows there are for all positive condition elements, the dead ones too. Where the rule has
+    /// none of these, there is the row of no places.
+    pub fn whole_count(&self) -> usize
+        ensures count { result ≡ length (whole_rows self.now) }
+        ensures few { result < 2 ^ 32 }
+    {
+        match self.rows() {
+            Some(rows) => rows.len(),
+            None => 1,
+        }
+    }
+
     /// The row with this number, for all positive condition elements.
-    fn whole_row(&self, number: usize) -> &[u32]
+    pub fn whole_row(&self, number: usize) -> &[u32]
         requires { number < length (whole_rows self.now) }
         ensures { slice_get (whole_rows self.now) number ≡ Some result.now }
     {
