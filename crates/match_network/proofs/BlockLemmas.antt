@@ -67,10 +67,6 @@ any_filter : {X : Type 0} (p q : X → Bool) (xs : List X) → list_any p (filte
 any_filter p q [] = refl
 any_filter p q (x ∷ xs) = any_kept p x (filter q xs) (q x) ∙ ap (λ b. (p x && q x) || b) (any_filter p q xs)
 
--- a number further on is there
-pub has_later : (first : ℕ) (rest : List ℕ) (number : ℕ) → has_number rest number ≡ true → has_number (first ∷ rest) number ≡ true
-has_later first rest number has = ap (λ b. (first == number) || b) has ∙ or_true (first == number)
-
 -- a number of those that are kept is one of all, and is kept
 both_step : (q : ℕ → Bool) (x : ℕ) (xs : List ℕ) (number : ℕ) (kept same : Bool) → q x ≡ kept → (x == number) ≡ same → list_any (λ n. n == number) (cond kept (x ∷ filter q xs) (filter q xs)) ≡ true → (has_number (filter q xs) number ≡ true → (has_number xs number ≡ true) × (q number ≡ true)) → ((same || has_number xs number) ≡ true) × (q number ≡ true)
 both_step q x xs number true true kept same has rest = (refl, ap q (sym (eqb-true x number same)) ∙ kept)

@@ -1,26 +1,17 @@
 -- All that has the key is in the bucket.
-use Rattle.std.proofs.Common.{◌≡◌, ℕ, ◌+◌, ◌≤◌, List, refl, reverse, rules, subst, sym, true}
+use Rattle.std.proofs.Common.{◌≡◌, ℕ, ◌+◌, ◌≤◌, List, refl, reverse, rules, subst, true}
 use Rattle.rule_base.specs.Numbers.{has_number}
 use Rattle.hash_buckets.specs.Buckets.{numbers_of}
 use Rattle.match_network.specs.Conditions.{entries_at}
 use Rattle.match_network.specs.Filed.{row_hash}
 use Rattle.match_network.specs.Joining.{agrees_at}
-use Rattle.match_network.specs.Levels.{HaveCome}
 use Rattle.match_network.specs.Negated.{blocks_at}
 use Rattle.match_network.specs.Tried.{places_tried}
-use Rattle.match_network.proofs.BlockLemmas.{HaveCome-take, found_blocks, if_both, none_blocks}
+use Rattle.match_network.proofs.BlockLemmas.{found_blocks, if_both, none_blocks}
 use Rattle.match_network.proofs.FiledLemmas.{IsCleaned-stays, IsStore-cleaned}
 use Rattle.match_network.proofs.StoreLemmas.{IsServed-cleaned, entries_cleaned, one_cleaned, served-within}
 use Rattle.match_network.proofs.TriedLemmas.{places_tried_in}
 use Rattle.match_network.proofs.negated.find_one.Goals as goal
-
-pub new-requires : goal.new-requires
-new-requires g c =
-    subst (HaveCome c.args.arrivals.now.came) (sym c.first_places-before.ensures) (HaveCome-take c.args.arrivals.now.came c.args.row.now c.args.negated.now.after c.requires.come)
-
-pub find_in-requires-clause-come : goal.find_in-requires-clause-come
-find_in-requires-clause-come g c =
-    subst (HaveCome c.args.arrivals.now.came) (sym c.first_places-before.ensures) (HaveCome-take c.args.arrivals.now.came c.args.row.now c.args.negated.now.after c.requires.come)
 
 pub store-kept-requires : goal.store-kept-requires
 store-kept-requires g c =

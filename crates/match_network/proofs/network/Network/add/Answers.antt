@@ -1,17 +1,10 @@
 -- The element that came is taken out again.
-use Rattle.std.proofs.Common.{ap, length, refl, subst, ◌∙◌}
+use Rattle.std.proofs.Common.{ap, length, subst, ◌∙◌}
 use Rattle.rule_base.specs.Views.{element_in}
 use Rattle.match_network.specs.Network.{Network}
 use Rattle.match_network.specs.Touched.{AllGrow}
-use Rattle.match_network.proofs.SetChangeLemmas.{grow_undone, network_undone, places_undone, same_grow}
+use Rattle.match_network.proofs.SetChangeLemmas.{grow_undone, network_undone, places_undone}
 use Rattle.match_network.proofs.network.Network.add.Goals as goal
-
-pub returns-in_err-place-clause-grows : goal.returns-in_err-place-clause-grows
-returns-in_err-place-clause-grows g c =
-    let inside = c.self.inside in
-    let new = c.insert.new.self in
-    subst (λ (n : Network). AllGrow new.came (length n.arrivals.came) n.rules inside.set.rules.items) c.self.view_is
-    (same_grow new.came (length inside.arrivals.came) inside.set.rules.items inside.set.rules.items refl)
 
 pub invariant_of-self-in-Err : goal.invariant_of-self-in-Err
 invariant_of-self-in-Err g c =

@@ -1,5 +1,5 @@
 -- The rules go on from those before the element to those with it.
-use Rattle.std.proofs.Common.{◌≡◌, ◌≤◌, ◌++◌, [], List, ap, arith, drop, filter, length, refl, rules, subst, sym, take, ◌∙◌}
+use Rattle.std.proofs.Common.{◌≡◌, ◌≤◌, ◌++◌, [], List, ap, arith, drop, filter, length, rules, subst, sym, take, ◌∙◌}
 use Rattle.std.specs.List.{AllByRecursion}
 use Rattle.std.specs.Result.{OnErr, OnOk}
 use Rattle.rule_base.specs.Views.{element_in}
@@ -10,7 +10,7 @@ use Rattle.match_network.specs.Rules.{AreStopped, AreWovenIn, IsDue, RuleRows, i
 use Rattle.match_network.specs.Touched.{AllGrow, AreNegatedDue, AreTouched, OthersStay}
 use Rattle.match_network.proofs.GivenLemmas.{on_ok}
 use Rattle.match_network.proofs.RuleLemmas.{front_again}
-use Rattle.match_network.proofs.SetChangeLemmas.{always_err, always_ok, same_grow, set_begins, set_due, set_ends, set_left, set_negated_due, set_once, set_stopped, stopped_grow, stopped_joins}
+use Rattle.match_network.proofs.SetChangeLemmas.{always_err, always_ok, set_begins, set_due, set_ends, set_left, set_negated_due, set_once, set_stopped, stopped_grow, stopped_joins}
 use Rattle.match_network.proofs.rule_set.RuleSet.take_in.Goals as goal
 
 pub returns-in_err-find_due-clause-err : goal.returns-in_err-find_due-clause-err
@@ -27,20 +27,6 @@ returns-in_err-find_due-clause-err g c =
     (subst (λ (those : List (List Asker)). IsNetwork a.came (filter (other_than c.args.place) a.places) new.alpha set.rules.items those new.negated_askers.items) (sym askers_is)
     (subst (λ (those : List (List Asker)). IsNetwork a.came (filter (other_than c.args.place) a.places) new.alpha set.rules.items set.askers.items those) (sym asks_is) left)) in
     always_err c.from_residual.result part
-
-pub returns-in_err-find_due-clause-touched : goal.returns-in_err-find_due-clause-touched
-returns-in_err-find_due-clause-touched g c =
-    let set = c.args.self.now in
-    let new = c.find_due.new.self in
-    let rules_is : new.rules.items ≡ set.rules.items = search rules in
-    subst (λ (rs : List RuleRows). OthersStay new.due.items set.rules.items rs) (sym rules_is) (λ number none. refl)
-
-pub returns-in_err-find_due-clause-grows : goal.returns-in_err-find_due-clause-grows
-returns-in_err-find_due-clause-grows g c =
-    let set = c.args.self.now in
-    let new = c.find_due.new.self in
-    let rules_is : new.rules.items ≡ set.rules.items = search rules in
-    same_grow c.args.arrivals.now.came c.args.place set.rules.items new.rules.items rules_is
 
 pub weave_all-requires-clause-due : goal.weave_all-requires-clause-due
 weave_all-requires-clause-due g c =
