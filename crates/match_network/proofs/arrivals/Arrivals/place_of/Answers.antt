@@ -1,5 +1,5 @@
 -- Only one place has the tag, or none.
-use Rattle.std.proofs.Common.{◌≡◌, ◌==◌, ℕ, arith, false, subst, sym, ◌∙◌}
+use Rattle.std.proofs.Common.{◌≡◌, ◌==◌, arith, false, subst, sym, ◌∙◌}
 use Rattle.std.specs.List.{list_any}
 use Rattle.match_network.specs.Arrivals.{Arrivals, has_tag}
 use Rattle.match_network.proofs.TagLemmas.{any_has_tag, has_tag-within, has_tag_only, none_has_tag}
