@@ -27,5 +27,7 @@ pub mod Touched
 pub mod Network
 -- how much work one element makes
 pub mod JoinWork
+-- worked examples
+pub mod Examples
 -- the full matches of a rule
 pub mod Full

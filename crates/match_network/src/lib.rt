@@ -5,6 +5,7 @@
 mod arrivals;
 mod askers;
 mod due;
+pub mod examples;
 mod full;
 pub mod laws;
 mod level;
