@@ -31,3 +31,5 @@ pub mod TakeLemmas
 pub mod PassedLemmas
 pub mod StopLemmas
 pub mod SetChangeLemmas
+-- what packing leaves
+pub mod PackingLemmas

@@ -20,4 +20,5 @@ pub mod FilingLaws
 pub mod Tried
 -- all rules
 pub mod Rules
+pub mod Packing
 pub mod Network

@@ -8,6 +8,7 @@ mod due;
 pub mod laws;
 mod level;
 mod network;
+mod packing;
 mod row_view;
 mod rows;
 mod rule_levels;

@@ -8,6 +8,7 @@ ghost use Rattle.match_network.specs.Arrivals.{with_arrival, without_tag};
 ghost use Rattle.match_network.specs.Conditions.{joins_of, rows_of};
 ghost use Rattle.match_network.specs.Levels.{AreLevels};
 ghost use Rattle.match_network.specs.Network.{joins_in};
+ghost use Rattle.match_network.specs.Packing.{ArePacked, MayBePacked};
 ghost use Rattle.match_network.specs.Rules.{AreCompiled};
 
 use crate::rule_set::RuleSet;
@@ -82,6 +83,17 @@ impl Network {
         ensures steps { steps.new ≤ steps.old + 2 }
     {
         self.arrivals.remove(tag, steps);
+    }
+
+    /// Drops the rows and the links of elements that aren't in working memory, and frees their memory. It
+    /// looks at each row and link once. After want of memory some levels and stores are packed.
+    pub fn pack(&mut self, alloc: Global) -> Result<(), OutOfMemory>
+        ensures arrivals { self.new.arrivals ≡ self.old.arrivals }
+        ensures joins { joins_in self.new.rules ≡ joins_in self.old.rules }
+        ensures ok { OnOk result (ArePacked self.old.arrivals.places self.old.rules self.new.rules) }
+        ensures err { OnErr result (MayBePacked self.old.arrivals.places self.old.rules self.new.rules) }
+    {
+        self.set.pack(alloc, &self.arrivals)
     }
 
     /// How many rules there are.

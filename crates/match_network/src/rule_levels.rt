@@ -7,9 +7,11 @@ ghost use Rattle.join_tests.specs.Meaning.{IsCompiled};
 ghost use Rattle.match_network.specs.Conditions.{AreCleaned, AreFiled, AreStores, joins_of, level_at, rows_of};
 ghost use Rattle.match_network.specs.Filed.{passes_at};
 ghost use Rattle.match_network.specs.Levels.{OnlyAdds};
+ghost use Rattle.match_network.specs.Packing.{IsPacked, IsRepacked};
 ghost use Rattle.match_network.specs.Rules.{AreAsked, AreBare, GoesOn, IsRight, IsStopped, IsWoven};
 ghost use Rattle.match_network.specs.Woven.{woven};
 
+use crate::packing::pack_levels;
 use crate::{Arrivals, Conditions, Level, Rows, new_levels, weave};
 use alpha_memory::AlphaMemory;
 use join_tests::{Join, Joins};
@@ -114,6 +116,16 @@ impl RuleLevels {
             self.levels.as_mut_slice(),
             steps,
         )
+    }
+
+    /// Packs all levels. After want of memory the first of them may be packed.
+    pub(crate) fn pack(&mut self, alloc: Global, arrivals: &Arrivals) -> Result<(), OutOfMemory>
+        requires filed { AreFiled self.old.joins.positives arrivals.now.came arrivals.now.places self.old.levels }
+        ensures ok { OnOk result (IsPacked arrivals.now.places (rows_of self.old.levels) (rows_of self.new.levels)) }
+        ensures repacked { IsRepacked arrivals.now.came arrivals.now.places self.old self.new }
+    {
+        let joins = self.joins.positives.as_slice();
+        pack_levels(alloc, joins, arrivals, self.levels.as_mut_slice())
     }
 }
 

@@ -2,13 +2,16 @@
 
 ghost use Rattle.std.specs.Prelude.{◌≡◌, [], ◌∷◌, ◌++◌, IfOk, OnErr, OnOk, filter, map};
 ghost use Rattle.join_tests.specs.Meaning.{IsCompiled};
+ghost use Rattle.rule_base.specs.Numbers.{has_number};
 ghost use Rattle.rule_base.specs.Views.{element_in};
-ghost use Rattle.alpha_memory.specs.Stores.{AreFiledOrNot, filed};
+ghost use Rattle.alpha_memory.specs.Stores.{AreFiledOrNot, filed, packed};
 ghost use Rattle.match_network.specs.Network.{IsBefore, IsNetwork, joins_in, other_than};
+ghost use Rattle.match_network.specs.Packing.{ArePacked, MayBePacked};
 ghost use Rattle.match_network.specs.Rules.{AreAllDue, AreBare, AreCompiled, IsAdded};
 
 use crate::askers::{Asker, collect, note_all};
 use crate::due::weave_all;
+use crate::packing::{pack_rules, pack_stores};
 use crate::{Arrivals, RuleLevels};
 use alpha_memory::AlphaMemory;
 use ops_text::{OutOfMemory, Sequence};
@@ -84,6 +87,19 @@ impl RuleSet {
             self.rules.as_mut_slice(),
             steps,
         )
+    }
+
+    /// Packs all stores and rules. After want of memory some are packed.
+    pub(crate) fn pack(&mut self, alloc: Global, arrivals: &Arrivals) -> Result<(), OutOfMemory>
+        requires right { IsNetwork arrivals.now.came arrivals.now.places self.old.alpha self.old.rules.items self.old.askers.items }
+        ensures ok { OnOk result (ArePacked arrivals.now.places self.old.rules.items self.new.rules.items) }
+        ensures rows { MayBePacked arrivals.now.places self.old.rules.items self.new.rules.items }
+        ensures links { OnOk result (self.new.alpha ≡ map (packed (has_number arrivals.now.places)) self.old.alpha) }
+        ensures joins { joins_in self.new.rules.items ≡ joins_in self.old.rules.items }
+        ensures right { IsNetwork arrivals.now.came arrivals.now.places self.new.alpha self.new.rules.items self.new.askers.items }
+    {
+        pack_stores(alloc, arrivals, &mut self.alpha)?;
+        pack_rules(alloc, arrivals, self.rules.as_mut_slice())
     }
 
     /// Files an element that came to a place in the stores that it passes, and finds who asks them.
