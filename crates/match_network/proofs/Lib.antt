@@ -33,3 +33,4 @@ pub mod StopLemmas
 pub mod SetChangeLemmas
 -- what packing leaves
 pub mod PackingLemmas
+pub mod HeldLemmas

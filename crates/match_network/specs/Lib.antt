@@ -20,5 +20,7 @@ pub mod FilingLaws
 pub mod Tried
 -- all rules
 pub mod Rules
+-- packing, and how much is held
 pub mod Packing
+pub mod Held
 pub mod Network

@@ -13,6 +13,9 @@ use Rattle.match_network.specs.Rules.{AreAskers, IsRight, RuleRows}
 pub record Network : Type 0 where
   pub arrivals : Arrivals
   pub rules : List RuleRows
+  -- how many rows and links there are, and how many there were after the last packing
+  pub held : ℕ
+  pub left : ℕ
 
 -- what is kept of all rules is right, and each condition element is noted where it asks
 pub record IsNetwork (came : List Element) (places : List ℕ) (alpha : List Store) (rules : List RuleRows) (askers : List (List Asker)) : Type 0 where

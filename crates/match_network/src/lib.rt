@@ -5,6 +5,7 @@
 mod arrivals;
 mod askers;
 mod due;
+mod held;
 pub mod laws;
 mod level;
 mod network;

@@ -1,16 +1,18 @@
 //! What the network keeps of one rule.
 
-ghost use Rattle.std.specs.Prelude.{◌≡◌, ℕ, ◌<◌, [], IfOk, IfSome, None, OnErr, OnOk, Some, length, slice_get, true};
+ghost use Rattle.std.specs.Prelude.{◌≡◌, ℕ, ◌-◌, ◌<◌, ◌^◌, [], IfOk, IfSome, None, OnErr, OnOk, Some, length, min, slice_get, true};
 ghost use Rattle.std.specs.List.{AllByRecursion, list_any};
 ghost use Rattle.join_tests.specs.declared.joins.Join.{Join};
 ghost use Rattle.join_tests.specs.Meaning.{IsCompiled};
 ghost use Rattle.match_network.specs.Conditions.{AreCleaned, AreFiled, AreStores, joins_of, level_at, rows_of};
 ghost use Rattle.match_network.specs.Filed.{passes_at};
+ghost use Rattle.match_network.specs.Held.{rows_filed};
 ghost use Rattle.match_network.specs.Levels.{OnlyAdds};
 ghost use Rattle.match_network.specs.Packing.{IsPacked, IsRepacked};
 ghost use Rattle.match_network.specs.Rules.{AreAsked, AreBare, GoesOn, IsRight, IsStopped, IsWoven};
 ghost use Rattle.match_network.specs.Woven.{woven};
 
+use crate::held::count_rows;
 use crate::packing::pack_levels;
 use crate::{Arrivals, Conditions, Level, Rows, new_levels, weave};
 use alpha_memory::AlphaMemory;
@@ -116,6 +118,13 @@ impl RuleLevels {
             self.levels.as_mut_slice(),
             steps,
         )
+    }
+
+    /// How many rows there are in all levels, the dead ones too.
+    pub(crate) fn count(&self) -> usize
+        ensures { result ≡ min (rows_filed self.now.levels) (2 ^ 64 - 1) }
+    {
+        count_rows(self.levels.as_slice())
     }
 
     /// Packs all levels. After want of memory the first of them may be packed.

@@ -5,12 +5,14 @@ ghost use Rattle.join_tests.specs.Meaning.{IsCompiled};
 ghost use Rattle.rule_base.specs.Numbers.{has_number};
 ghost use Rattle.rule_base.specs.Views.{element_in};
 ghost use Rattle.alpha_memory.specs.Stores.{AreFiledOrNot, filed, packed};
+ghost use Rattle.match_network.specs.Held.{RowsHeld};
 ghost use Rattle.match_network.specs.Network.{IsBefore, IsNetwork, joins_in, other_than};
 ghost use Rattle.match_network.specs.Packing.{ArePacked, MayBePacked};
 ghost use Rattle.match_network.specs.Rules.{AreAllDue, AreBare, AreCompiled, IsAdded};
 
 use crate::askers::{Asker, collect, note_all};
 use crate::due::weave_all;
+use crate::held::{count_all_rows, count_links};
 use crate::packing::{pack_rules, pack_stores};
 use crate::{Arrivals, RuleLevels};
 use alpha_memory::AlphaMemory;
@@ -29,6 +31,8 @@ pub(crate) struct RuleSet {
     /// Room for the numbers of the stores that an element passes, and for those who ask them.
     passed: Vec<u32>,
     due: Vec<Asker>,
+    /// How many rows and links there are, the dead ones and the unlinked ones too.
+    pub(crate) held: usize,
 }
 
 impl RuleSet {
@@ -36,6 +40,7 @@ impl RuleSet {
     pub(crate) fn new(alloc: Global, rules: &[Rule]) -> Result<RuleSet, OutOfMemory>
         ensures compiled { IfOk result (λ set. AreCompiled rules.now set.rules.items) }
         ensures right { IfOk result (λ set. IsNetwork [] [] set.alpha set.rules.items set.askers.items) }
+        ensures held { IfOk result (λ set. RowsHeld set.held set.rules.items set.alpha) }
     {
         let mut set = RuleSet {
             alpha: AlphaMemory::new(alloc),
@@ -43,10 +48,12 @@ impl RuleSet {
             askers: Vec::new(alloc),
             passed: Vec::new(alloc),
             due: Vec::new(alloc),
+            held: 0,
         };
         for number in 0..rules.len() {
             set.push(alloc, &rules[number])?;
         }
+        set.held = set.count();
         Ok(set)
     }
 
@@ -77,6 +84,7 @@ impl RuleSet {
         ensures ok { OnOk result (IsNetwork arrivals.now.came arrivals.now.places self.new.alpha self.new.rules.items self.new.askers.items) }
         ensures err { OnErr result (IsNetwork arrivals.now.came (filter (other_than place) arrivals.now.places) self.new.alpha self.new.rules.items self.new.askers.items) }
         ensures joins { joins_in self.new.rules.items ≡ joins_in self.old.rules.items }
+        ensures held { RowsHeld self.old.held self.old.rules.items self.old.alpha → RowsHeld self.new.held self.new.rules.items self.new.alpha }
     {
         self.find_due(place, element)?;
         weave_all(
@@ -85,8 +93,17 @@ impl RuleSet {
             arrivals,
             &mut self.alpha,
             self.rules.as_mut_slice(),
+            &mut self.held,
             steps,
         )
+    }
+
+    /// How many rows and links there are, the dead ones and the unlinked ones too.
+    pub(crate) fn count(&self) -> usize
+        ensures { RowsHeld result self.now.rules.items self.now.alpha }
+    {
+        let rows = count_all_rows(self.rules.as_slice());
+        rows.saturating_add(count_links(&self.alpha))
     }
 
     /// Packs all stores and rules. After want of memory some are packed.
@@ -109,10 +126,13 @@ impl RuleSet {
         ensures err { OnErr result (AreFiledOrNot place (element_in element.entry) self.old.alpha self.new.alpha) }
         ensures rules { self.new.rules ≡ self.old.rules }
         ensures askers { self.new.askers ≡ self.old.askers }
+        ensures held { RowsHeld self.old.held self.old.rules.items self.old.alpha → RowsHeld self.new.held self.new.rules.items self.new.alpha }
     {
         self.passed.clear();
         self.due.clear();
-        self.alpha.file(place, element, &mut self.passed)?;
+        let filed = self.alpha.file(place, element, &mut self.passed);
+        self.held = self.held.saturating_add(self.passed.len());
+        filed?;
         collect(
             self.askers.as_slice(),
             self.passed.as_slice(),
