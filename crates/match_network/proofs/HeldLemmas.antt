@@ -2,7 +2,7 @@
 use Rattle.std.proofs.Common.{◌≡◌, ℕ, zero, suc, ◌+◌, ◌-◌, ◌<◌, ◌≤◌, ◌^◌, List, [], ◌∷◌, ◌++◌, Bool, filter, get_or, length, min, None, Some, refl, ap, sym, ◌∙◌, arith, set, slice_get, subst, take}
 use Rattle.std.specs.List.{sum_by}
 use Rattle.std.specs.Option.{option_map}
-use Rattle.std.proofs.lemmas.List.Sums.{count_by-le-length, get_or-le-sum_by, length-filter, sum_by-cons, sum_by-set}
+use Rattle.std.proofs.lemmas.List.Sums.{count_by-le-length, get_or-le-sum_by, length-filter, sum_by-cons, sum_by-set, sum_by_more}
 use Rattle.rule_base.specs.declared.element.Element.{Element}
 use Rattle.alpha_memory.specs.Stores.{Store, emptied, places_filed}
 use Rattle.match_network.specs.Conditions.{AreCleaned}
@@ -72,3 +72,12 @@ both_counted count rows links rules alpha rows_is covers is small =
     let less : links < 2 ^ 64 - 1 = omega (arith, small, is) in
     let enough : places_filed alpha ≤ links = covers less in
     omega (arith, enough, small, rows_is, is)
+
+-- one store more was counted
+pub links_more : (count now links number : ℕ) (alpha : List Store) (store : Store) → slice_get alpha number ≡ Some store → length store.entries ≤ links → now ≡ min (count + links) (2 ^ 64 - 1) → Covers count (places_filed (take number alpha)) → Covers now (places_filed (take (number + 1) alpha))
+links_more count now links number alpha store there enough is covers small =
+    let more : places_filed (take (number + 1) alpha) ≡ places_filed (take number alpha) + length (get_or alpha number store).entries =
+    sum_by_more (λ (s : Store). length s.entries) alpha number store (within-is alpha number store there) in
+    let long : length (get_or alpha number store).entries ≡ length store.entries = ap (λ (s : Store). length s.entries) (get_or-is alpha number store store there) in
+    let was : places_filed (take number alpha) ≤ count = covers (omega (arith, small, is)) in
+    omega (arith, was, more, long, enough, is, small)
