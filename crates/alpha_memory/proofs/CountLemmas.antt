@@ -1,5 +1,5 @@
 -- How many places are filed, as an element is filed in one store after another.
-use Rattle.std.proofs.Common.{◌≡◌, ℕ, zero, suc, ◌+◌, ◌≤◌, List, [], ◌∷◌, ◌++◌, Bool, true, false, cond, length, min, Result, Ok, Err, refl, ap, ◌∙◌, arith, length-append, length-take, subst, sym, take}
+use Rattle.std.proofs.Common.{◌≡◌, ℕ, zero, suc, ◌+◌, ◌≤◌, List, [], ◌∷◌, ◌++◌, Bool, true, false, cond, length, Result, Ok, Err, arith, length-append, subst, sym}
 use Rattle.std.specs.Result.{OnErr, OnOk}
 use Rattle.std.proofs.lemmas.List.Sums.{sum_by-cons}
 use Rattle.rule_base.specs.declared.element.Element.{Element}

@@ -124,7 +124,7 @@ impl AlphaMemory {
     /// Files the place of an element in all stores that let it in, but for those that keep none, and adds
     /// the numbers of all of them to `passed`, each once. It looks only at stores that the element's class,
     /// or its class and a value, leads to, and takes no memory but where arrays grow. After want of memory
-    /// what was added to `passed` is of no use, but that there are as many numbers as places were filed.
+    /// what was added to `passed` is of no use, but no more places were filed than there are numbers.
     pub fn file(
         &mut self,
         place: u32,

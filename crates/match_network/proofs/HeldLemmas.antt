@@ -1,12 +1,9 @@
 -- How much is held as elements come, and of stores that were cleaned.
-use Rattle.std.proofs.Common.{◌≡◌, ℕ, zero, suc, ◌+◌, ◌-◌, ◌<◌, ◌≤◌, ◌^◌, List, [], ◌∷◌, ◌++◌, Bool, filter, get_or, length, min, None, Some, refl, ap, sym, ◌∙◌, arith, set, slice_get, subst, take}
-use Rattle.std.specs.List.{sum_by}
-use Rattle.std.specs.Option.{option_map}
+use Rattle.std.proofs.Common.{◌≡◌, ℕ, zero, suc, ◌+◌, ◌-◌, ◌<◌, ◌≤◌, ◌^◌, List, [], ◌∷◌, Bool, filter, get_or, length, min, None, Some, ap, sym, ◌∙◌, arith, set, slice_get, subst, take}
 use Rattle.std.proofs.lemmas.List.Sums.{count_by-le-length, get_or-le-sum_by, length-filter, sum_by-cons, sum_by-set, sum_by_more}
 use Rattle.rule_base.specs.declared.element.Element.{Element}
 use Rattle.alpha_memory.specs.Stores.{Store, emptied, places_filed}
 use Rattle.match_network.specs.Conditions.{AreCleaned}
-use Rattle.match_network.specs.Filed.{LevelRows}
 use Rattle.match_network.specs.Held.{Covers, RowsHeld, all_rows, rows_filed}
 use Rattle.match_network.specs.Joining.{IsCleaned}
 use Rattle.match_network.specs.Rules.{IsStep, RuleRows}

@@ -1,5 +1,5 @@
 -- What packing leaves: of each level the rows that are of elements in working memory.
-use Rattle.std.specs.Prelude.{◌≡◌, ◌⊎◌, ℕ, ◌<◌, List, Some, filter, length, slice_get, slice_set}
+use Rattle.std.specs.Prelude.{◌≡◌, ◌⊎◌, ℕ, List, Some, filter, length, slice_get, slice_set}
 use Rattle.rule_base.specs.declared.element.Element.{Element}
 use Rattle.match_network.specs.Conditions.{AreFiled, rows_of}
 use Rattle.match_network.specs.Row.{is_living}

@@ -1,5 +1,5 @@
 -- What is kept of all rules stays right.
-use Rattle.std.proofs.Common.{◌≡◌, ◌≤◌, ◌++◌, List, ap, arith, drop, length, subst, sym, take, ◌∙◌}
+use Rattle.std.proofs.Common.{◌≡◌, ◌++◌, List, ap, arith, drop, length, subst, sym, take, ◌∙◌}
 use Rattle.std.specs.List.{AllByRecursion}
 use Rattle.match_network.specs.Network.{IsNetwork, joins_in}
 use Rattle.match_network.specs.Packing.{AreRepacked}
