@@ -13,7 +13,7 @@ use Rattle.match_network.specs.Rules.{AreAskers, IsRight, RuleRows}
 pub record Network : Type 0 where
   pub arrivals : Arrivals
   pub rules : List RuleRows
-  -- how many rows and links there are, and how many there were after the last packing
+  -- a count of the rows and links, the dead ones too, which is never too low, and what it was after the last packing
   pub held : ℕ
   pub left : ℕ
 
