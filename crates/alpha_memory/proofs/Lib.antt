@@ -4,6 +4,8 @@ pub mod TimesLemmas
 pub mod ListingLemmas
 -- one store changes, or several
 pub mod ChangeLemmas
+-- how many places are filed
+pub mod CountLemmas
 -- which stores are found
 pub mod FoundLemmas
 -- what leads to a store

@@ -1,5 +1,6 @@
 -- Alpha stores: what they ask of elements, and which are filed in them.
-use Rattle.std.specs.Prelude.{ℕ, zero, suc, List, [], ◌∷◌, ◌++◌, ◌≡◌, ◌⊎◌, Bool, false, Some, filter, fold, if◌then◌else◌, map, option_map, slice_get}
+use Rattle.std.specs.Prelude.{ℕ, zero, suc, List, [], ◌∷◌, ◌++◌, ◌≡◌, ◌⊎◌, Bool, false, Some, filter, fold, if◌then◌else◌, length, map, option_map, slice_get}
+use Rattle.std.specs.List.{sum_by}
 use Rattle.std.specs.Option.{option_map_or}
 use Rattle.hash_buckets.specs.Buckets.{stays}
 use Rattle.rule_base.specs.declared.element.Element.{Element}
@@ -76,3 +77,7 @@ Serves wanted stores number = option_map emptied (slice_get stores number) ≡ S
 abbrev pub AreFiledOrNot : ℕ → Element → List Store → List Store → Type 0
 AreFiledOrNot place e before after =
     (number : ℕ) → (slice_get after number ≡ slice_get before number) ⊎ (slice_get after number ≡ option_map (filed place e) (slice_get before number))
+
+-- how many places are filed in all stores
+abbrev pub places_filed : List Store → ℕ
+places_filed stores = sum_by (λ (store : Store). length store.entries) stores

@@ -1,9 +1,9 @@
 //! All alpha stores of a program.
 
-ghost use Rattle.std.specs.Prelude.{◌≡◌, ℕ, ◌+◌, ◌<◌, ◌^◌, ◌⊎◌, [], ◌∷◌, ◌++◌, ◌==◌, IfOk, IfSome, OnErr, OnOk, None, Some, if◌then◌else◌, length, map, slice_get};
+ghost use Rattle.std.specs.Prelude.{◌≡◌, ℕ, ◌+◌, ◌<◌, ◌≤◌, ◌^◌, ◌⊎◌, [], ◌∷◌, ◌++◌, ◌==◌, IfOk, IfSome, OnErr, OnOk, None, Some, if◌then◌else◌, length, map, slice_get};
 ghost use Rattle.rule_base.specs.Views.{element_in};
 ghost use Rattle.alpha_memory.specs.Dispatch.{IsDispatched, patterns_of};
-ghost use Rattle.alpha_memory.specs.Stores.{AreFiledOrNot, Serves, admits, cleaned, filed, has_at, packed, with_change, without_entries};
+ghost use Rattle.alpha_memory.specs.Stores.{AreFiledOrNot, Serves, admits, cleaned, filed, has_at, packed, places_filed, with_change, without_entries};
 ghost use Rattle.alpha_memory.specs.Times.{times};
 
 use crate::dispatch::{dispatch_hash, dispatch_of, list_dispatch};
@@ -124,7 +124,7 @@ impl AlphaMemory {
     /// Files the place of an element in all stores that let it in, but for those that keep none, and adds
     /// the numbers of all of them to `passed`, each once. It looks only at stores that the element's class,
     /// or its class and a value, leads to, and takes no memory but where arrays grow. After want of memory
-    /// what was added to `passed` is of no use.
+    /// what was added to `passed` is of no use, but no more places were filed than there are numbers.
     pub fn file(
         &mut self,
         place: u32,
@@ -135,6 +135,7 @@ impl AlphaMemory {
         ensures passed { OnOk result ((n : ℕ) → times (λ m. n == m) passed.new.items
             ≡ times (λ m. n == m) passed.old.items + (if has_at (admits (element_in element.entry)) self.old n then 1 else 0)) }
         ensures err { OnErr result (AreFiledOrNot place (element_in element.entry) self.old self.new) }
+        ensures count { places_filed self.new ≤ places_filed self.old + length passed.new.items }
     {
         let start = passed.len();
         find_all(

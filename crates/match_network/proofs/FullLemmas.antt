@@ -292,9 +292,9 @@ left-living places rows number row at lives =
     filter-from (is_living places) rows number row at ∙ ap (λ b. cond b (row ∷ []) [] ++ filter (is_living places) (drop (number + 1) rows)) lives
 
 -- the same of a network
-pub network_tells : (arrivals : Arrivals) (alpha : List Store) (rules : List RuleRows) (askers asks : List (List Asker)) (due negated_due : List Asker) (now : Network) (number : ℕ) (shown : List (List ℕ)) → ◌≡◌ {A = Network} (record { arrivals = arrivals; rules = rules; due = due; negated_due = negated_due }) now → IsNetwork arrivals.came arrivals.places alpha rules askers asks → Rises (tags_of arrivals.came) → AllByRecursion (λ p. p < length arrivals.came) arrivals.places → ((kept : RuleRows) → slice_get rules number ≡ Some kept → shown ≡ filter (is_living arrivals.places) (rows_of kept.levels (length kept.levels))) →
+pub network_tells : (arrivals : Arrivals) (alpha : List Store) (rules : List RuleRows) (askers asks : List (List Asker)) (due negated_due : List Asker) (kept_count left : ℕ) (now : Network) (number : ℕ) (shown : List (List ℕ)) → ◌≡◌ {A = Network} (record { arrivals = arrivals; rules = rules; due = due; negated_due = negated_due; held = kept_count; left = left }) now → IsNetwork arrivals.came arrivals.places alpha rules askers asks → Rises (tags_of arrivals.came) → AllByRecursion (λ p. p < length arrivals.came) arrivals.places → ((kept : RuleRows) → slice_get rules number ≡ Some kept → shown ≡ filter (is_living arrivals.places) (rows_of kept.levels (length kept.levels))) →
     (rule : Rule) (kept : RuleRows) → slice_get now.rules number ≡ Some kept → IsCompiled rule kept.joins → AreFullMatches rule (memory_of now.arrivals) (map (tags_at now.arrivals.came) shown)
-network_tells arrivals alpha rules askers asks due negated_due now number shown is held rises below shown_is rule kept there compiled =
+network_tells arrivals alpha rules askers asks due negated_due kept_count left now number shown is held rises below shown_is rule kept there compiled =
     let at : slice_get rules number ≡ Some kept = ap (λ (n : Network). slice_get n.rules number) is ∙ there in
     subst (λ (n : Network). AreFullMatches rule (memory_of n.arrivals) (map (tags_at n.arrivals.came) shown)) is
     (subst (λ rows. AreFullMatches rule (memory_of arrivals) (map (tags_at arrivals.came) rows)) (sym (shown_is kept at))

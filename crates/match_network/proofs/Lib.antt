@@ -42,3 +42,6 @@ pub mod DueWorkLemmas
 -- full matches
 pub mod FullLemmas
 pub mod TellLemmas
+-- what packing leaves
+pub mod PackingLemmas
+pub mod HeldLemmas

@@ -34,7 +34,7 @@ use Rattle.match_network.proofs.TakeLemmas.{IsServed-filed, last_came, nothing_a
 use Rattle.rule_base.proofs.EachLemmas.{Each-weaker}
 
 -- what is the same at each number is the same
-same_parts : {X : Type 0} (part : RuleRows → X) (old now : List RuleRows) → length now ≡ length old → ((n : ℕ) (before after : RuleRows) → slice_get old n ≡ Some before → slice_get now n ≡ Some after → part after ≡ part before) → map part now ≡ map part old
+pub same_parts : {X : Type 0} (part : RuleRows → X) (old now : List RuleRows) → length now ≡ length old → ((n : ℕ) (before after : RuleRows) → slice_get old n ≡ Some before → slice_get now n ≡ Some after → part after ≡ part before) → map part now ≡ map part old
 same_parts part [] [] long same = refl
 same_parts part [] (after ∷ now) long same = absurd (omega (arith, long))
 same_parts part (before ∷ old) [] long same = absurd (omega (arith, long))

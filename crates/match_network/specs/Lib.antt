@@ -24,6 +24,9 @@ pub mod Rules
 pub mod Negated
 -- what an element that came has touched
 pub mod Touched
+-- packing, and how much is held
+pub mod Packing
+pub mod Held
 pub mod Network
 -- how much work one element makes
 pub mod JoinWork

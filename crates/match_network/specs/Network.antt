@@ -19,6 +19,9 @@ pub record Network : Type 0 where
   pub rules : List RuleRows
   pub due : List Asker
   pub negated_due : List Asker
+  -- a count of the rows and links, the dead ones too, which is never too low, and what it was after the last packing
+  pub held : ℕ
+  pub left : ℕ
 
 -- what is kept of all rules is right, and each condition element is noted where it asks, positive or negated
 pub record IsNetwork (came : List Element) (places : List ℕ) (alpha : List Store) (rules : List RuleRows) (askers : List (List Asker)) (negated_askers : List (List Asker)) : Type 0 where

@@ -1,6 +1,6 @@
 //! The match network of a program's rules.
 
-ghost use Rattle.std.specs.Prelude.{◌≡◌, ◌+◌, ◌<◌, ◌≤◌, ◌⊎◌, [], ◌∷◌, ◌++◌, IfOk, IfSome, OnErr, OnOk, Some, filter, length, map, slice_get, ℕ, List, MatchOption, None, false, true, ◌==◌};
+ghost use Rattle.std.specs.Prelude.{◌≡◌, ◌+◌, ◌<◌, ◌≤◌, ◌⊎◌, [], ◌∷◌, ◌++◌, IfOk, IfSome, OnErr, OnOk, Some, filter, length, map, slice_get, ℕ, List, MatchOption, None, false, true, ◌==◌, ◌*◌, nat_lt};
 ghost use Rattle.std.specs.List.{AllByRecursion, list_all, list_any};
 ghost use Rattle.rule_base.specs.declared.element.Element.{Element};
 ghost use Rattle.rule_base.specs.declared.program.Rule.{Rule};
@@ -17,6 +17,8 @@ ghost use Rattle.match_network.specs.Row.{is_living, elements_of};
 ghost use Rattle.match_network.specs.Negated.{IsWholeRow, blockers_tried, blocks, whole_rows};
 ghost use Rattle.match_network.specs.Rules.{AreCompiled, RuleRows};
 ghost use Rattle.match_network.specs.Touched.{AllGrow, AreNegatedDue, OthersStay};
+ghost use Rattle.match_network.specs.Held.{Covers, all_rows};
+ghost use Rattle.match_network.specs.Packing.{ArePacked, MayBePacked};
 
 use crate::rule_set::RuleSet;
 use crate::{Arrivals, Asker, FullRows, RuleLevels};
@@ -32,16 +34,20 @@ use std::sync::ledger::Ledger;
 pub struct Network {
     arrivals: Arrivals,
     set: RuleSet,
+    /// How many rows and links there were after the last packing.
+    left: usize,
 }
 
 impl Model for Network {
+    ghost use Rattle.match_network.specs.Held.{RowsHeld};
     ghost use Rattle.match_network.specs.Network.{IsNetwork, Network};
 
     ghost Value = { Network };
 
-    ghost view = { λ n. record { arrivals = n.arrivals; rules = n.set.rules.items; due = n.set.due.items; negated_due = n.set.negated_due.items } };
+    ghost view = { λ n. record { arrivals = n.arrivals; rules = n.set.rules.items; due = n.set.due.items; negated_due = n.set.negated_due.items; held = n.set.held; left = n.left } };
 
-    ghost invariant = { λ n. IsNetwork n.arrivals.came n.arrivals.places n.set.alpha n.set.rules.items n.set.askers.items n.set.negated_askers.items };
+    ghost invariant = { λ n. IsNetwork n.arrivals.came n.arrivals.places n.set.alpha n.set.rules.items n.set.askers.items n.set.negated_askers.items
+        × RowsHeld n.set.held n.set.rules.items n.set.alpha };
 }
 
 impl Network {
@@ -50,10 +56,12 @@ impl Network {
         ensures came { IfOk result (λ network. network.arrivals.came ≡ []) }
         ensures places { IfOk result (λ network. network.arrivals.places ≡ []) }
         ensures compiled { IfOk result (λ network. AreCompiled rules.now network.rules) }
+        ensures left { IfOk result (λ network. network.left ≡ 0) }
     {
         Ok(Network {
             arrivals: Arrivals::new(alloc)?,
             set: RuleSet::new(alloc, rules)?,
+            left: 0,
         })
     }
 
@@ -68,6 +76,7 @@ impl Network {
         ensures ok { OnOk result (self.new.arrivals ≡ with_arrival self.old.arrivals (element_in element.entry)) }
         ensures err { OnErr result (self.new.arrivals.places ≡ self.old.arrivals.places) }
         ensures joins { joins_in self.new.rules ≡ joins_in self.old.rules }
+        ensures left { self.new.left ≡ self.old.left }
 
         // Whom it touched: all other rules are as before, and levels got only rows with its place.
         ensures touched { OthersStay self.new.due self.old.rules self.new.rules }
@@ -123,8 +132,37 @@ impl Network {
             (λ place. (has_number self.old.arrivals.places place ≡ true) × (has_tag self.old.arrivals.came tag place ≡ true)) }
         ensures arrivals { self.new.arrivals ≡ without_tag self.old.arrivals tag }
         ensures rules { self.new.rules ≡ self.old.rules }
+        ensures held { (self.new.held ≡ self.old.held) × (self.new.left ≡ self.old.left) }
     {
         self.arrivals.remove(tag)
+    }
+
+    /// Drops the rows and the links of elements that aren't in working memory, and frees their memory. It
+    /// looks at each row and link once. After want of memory some levels and stores are packed.
+    pub fn pack(&mut self, alloc: Global) -> Result<(), OutOfMemory>
+        ensures arrivals { self.new.arrivals ≡ self.old.arrivals }
+        ensures joins { joins_in self.new.rules ≡ joins_in self.old.rules }
+        ensures ok { OnOk result (ArePacked self.old.arrivals.places self.old.rules self.new.rules) }
+        ensures err { OnErr result (MayBePacked self.old.arrivals.places self.old.rules self.new.rules) }
+        ensures left { OnOk result (self.new.left ≡ self.new.held) }
+        ensures same_left { OnErr result (self.new.left ≡ self.old.left) }
+        ensures calm { OnOk result (nat_lt (2 * self.new.left + 16384) self.new.held ≡ false) }
+    {
+        let packed = self.set.pack(alloc, &self.arrivals);
+        self.set.held = self.set.count();
+        packed?;
+        self.left = self.set.held;
+        Ok(())
+    }
+
+    /// Whether rows and links are more than twice as many as the last packing left, and 16,384 more. Then
+    /// packing pays.
+    pub fn is_crowded(&self) -> bool
+        ensures crowded { result ≡ nat_lt (2 * self.now.left + 16384) self.now.held }
+        ensures few { result ≡ false → Covers (2 * self.now.left + 16384) (all_rows self.now.rules) }
+    {
+        let most = self.left.saturating_mul(2).saturating_add(16_384);
+        most < self.set.held
     }
 
     /// How many rules there are.

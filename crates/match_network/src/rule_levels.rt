@@ -1,6 +1,6 @@
 //! What the network keeps of one rule.
 
-ghost use Rattle.std.specs.Prelude.{◌≡◌, ℕ, ◌+◌, ◌<◌, ◌≤◌, [], IfOk, IfSome, None, OnErr, OnOk, Some, length, slice_get, true, List, ◌^◌};
+ghost use Rattle.std.specs.Prelude.{◌≡◌, ℕ, ◌+◌, ◌<◌, ◌≤◌, [], IfOk, IfSome, None, OnErr, OnOk, Some, length, slice_get, true, List, ◌^◌, ◌-◌, min};
 ghost use Rattle.std.specs.List.{AllByRecursion, list_any, list_all};
 ghost use Rattle.rule_base.specs.Numbers.{has_number};
 ghost use Rattle.join_tests.specs.declared.joins.Join.{Join};
@@ -10,11 +10,15 @@ ghost use Rattle.match_network.specs.Filed.{passes_at};
 ghost use Rattle.match_network.specs.Levels.{HaveCome, OnlyAdds};
 ghost use Rattle.match_network.specs.Negated.{AreNegatedAsked, AreNegatedServed, blockers_tried, blocks, whole_rows};
 ghost use Rattle.match_network.specs.Row.{elements_of};
+ghost use Rattle.match_network.specs.Held.{rows_filed};
+ghost use Rattle.match_network.specs.Packing.{IsPacked, IsRepacked};
 ghost use Rattle.match_network.specs.Rules.{AreAsked, AreBare, GoesOn, IsRight, IsStopped, IsWoven};
 ghost use Rattle.match_network.specs.Tried.{rule_tried};
 ghost use Rattle.match_network.specs.Woven.{woven};
 
 use crate::negated::find_blocker;
+use crate::held::count_rows;
+use crate::packing::pack_levels;
 use crate::{Arrivals, Conditions, Level, Rows, new_levels, weave};
 use alpha_memory::AlphaMemory;
 use join_tests::{Join, Joins, Negated};
@@ -185,6 +189,23 @@ impl RuleLevels {
             self.levels.as_mut_slice(),
             steps,
         )
+    }
+
+    /// How many rows there are in all levels, the dead ones too.
+    pub(crate) fn count(&self) -> usize
+        ensures { result ≡ min (rows_filed self.now.levels) (2 ^ 64 - 1) }
+    {
+        count_rows(self.levels.as_slice())
+    }
+
+    /// Packs all levels. After want of memory the first of them may be packed.
+    pub(crate) fn pack(&mut self, alloc: Global, arrivals: &Arrivals) -> Result<(), OutOfMemory>
+        requires filed { AreFiled self.old.joins.positives arrivals.now.came arrivals.now.places self.old.levels }
+        ensures ok { OnOk result (IsPacked arrivals.now.places (rows_of self.old.levels) (rows_of self.new.levels)) }
+        ensures repacked { IsRepacked arrivals.now.came arrivals.now.places self.old self.new }
+    {
+        let joins = self.joins.positives.as_slice();
+        pack_levels(alloc, joins, arrivals, self.levels.as_mut_slice())
     }
 }
 

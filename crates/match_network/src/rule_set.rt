@@ -2,15 +2,20 @@
 
 ghost use Rattle.std.specs.Prelude.{◌≡◌, ◌+◌, ◌≤◌, [], ◌∷◌, ◌++◌, IfOk, OnErr, OnOk, filter, map};
 ghost use Rattle.join_tests.specs.Meaning.{IsCompiled};
+ghost use Rattle.rule_base.specs.Numbers.{has_number};
 ghost use Rattle.rule_base.specs.Views.{element_in};
-ghost use Rattle.alpha_memory.specs.Stores.{AreFiledOrNot, filed};
+ghost use Rattle.alpha_memory.specs.Stores.{AreFiledOrNot, filed, packed};
 ghost use Rattle.match_network.specs.JoinWork.{join_work_of};
+ghost use Rattle.match_network.specs.Held.{RowsHeld};
 ghost use Rattle.match_network.specs.Network.{IsBefore, IsNetwork, joins_in, other_than};
+ghost use Rattle.match_network.specs.Packing.{ArePacked, MayBePacked};
 ghost use Rattle.match_network.specs.Rules.{AreAllDue, AreBare, AreCompiled, IsAdded};
 ghost use Rattle.match_network.specs.Touched.{AllGrow, AreNegatedDue, OthersStay};
 
 use crate::askers::{Asker, collect, note_all};
 use crate::due::weave_all;
+use crate::held::{count_all_rows, count_links};
+use crate::packing::{pack_rules, pack_stores};
 use crate::{Arrivals, RuleLevels};
 use alpha_memory::AlphaMemory;
 use ops_text::{OutOfMemory, Sequence};
@@ -31,6 +36,9 @@ pub(crate) struct RuleSet {
     /// Those who ask the stores that the last element passed.
     pub(crate) due: Vec<Asker>,
     pub(crate) negated_due: Vec<Asker>,
+    due: Vec<Asker>,
+    /// How many rows and links there are, the dead ones and the unlinked ones too.
+    pub(crate) held: usize,
 }
 
 impl RuleSet {
@@ -38,6 +46,8 @@ impl RuleSet {
     pub(crate) fn new(alloc: Global, rules: &[Rule]) -> Result<RuleSet, OutOfMemory>
         ensures compiled { IfOk result (λ set. AreCompiled rules.now set.rules.items) }
         ensures right { IfOk result (λ set. IsNetwork [] [] set.alpha set.rules.items set.askers.items set.negated_askers.items) }
+        ensures right { IfOk result (λ set. IsNetwork [] [] set.alpha set.rules.items set.askers.items) }
+        ensures held { IfOk result (λ set. RowsHeld set.held set.rules.items set.alpha) }
     {
         let mut set = RuleSet {
             alpha: AlphaMemory::new(alloc),
@@ -47,10 +57,12 @@ impl RuleSet {
             passed: Vec::new(alloc),
             due: Vec::new(alloc),
             negated_due: Vec::new(alloc),
+            held: 0,
         };
         for number in 0..rules.len() {
             set.push(alloc, &rules[number])?;
         }
+        set.held = set.count();
         Ok(set)
     }
 
@@ -86,6 +98,7 @@ impl RuleSet {
         ensures touched { OthersStay self.new.due.items self.old.rules.items self.new.rules.items }
         ensures grows { AllGrow arrivals.now.came place self.old.rules.items self.new.rules.items }
         ensures negated_due { OnOk result (AreNegatedDue (element_in element.entry) self.new.rules.items self.new.negated_due.items) }
+        ensures held { RowsHeld self.old.held self.old.rules.items self.old.alpha → RowsHeld self.new.held self.new.rules.items self.new.alpha }
     {
         self.find_due(place, element)?;
         weave_all(
@@ -94,8 +107,30 @@ impl RuleSet {
             arrivals,
             &mut self.alpha,
             self.rules.as_mut_slice(),
+            &mut self.held,
             steps,
         )
+    }
+
+    /// How many rows and links there are, the dead ones and the unlinked ones too.
+    pub(crate) fn count(&self) -> usize
+        ensures { RowsHeld result self.now.rules.items self.now.alpha }
+    {
+        let rows = count_all_rows(self.rules.as_slice());
+        rows.saturating_add(count_links(&self.alpha))
+    }
+
+    /// Packs all stores and rules. After want of memory some are packed.
+    pub(crate) fn pack(&mut self, alloc: Global, arrivals: &Arrivals) -> Result<(), OutOfMemory>
+        requires right { IsNetwork arrivals.now.came arrivals.now.places self.old.alpha self.old.rules.items self.old.askers.items self.old.negated_askers.items }
+        ensures ok { OnOk result (ArePacked arrivals.now.places self.old.rules.items self.new.rules.items) }
+        ensures rows { MayBePacked arrivals.now.places self.old.rules.items self.new.rules.items }
+        ensures links { OnOk result (self.new.alpha ≡ map (packed (has_number arrivals.now.places)) self.old.alpha) }
+        ensures joins { joins_in self.new.rules.items ≡ joins_in self.old.rules.items }
+        ensures right { IsNetwork arrivals.now.came arrivals.now.places self.new.alpha self.new.rules.items self.new.askers.items self.new.negated_askers.items }
+    {
+        pack_stores(alloc, arrivals, &mut self.alpha)?;
+        pack_rules(alloc, arrivals, self.rules.as_mut_slice())
     }
 
     /// Files an element that came to a place in the stores that it passes, and finds who asks them.
@@ -107,11 +142,14 @@ impl RuleSet {
         ensures rules { self.new.rules ≡ self.old.rules }
         ensures askers { self.new.askers ≡ self.old.askers }
         ensures negated_askers { self.new.negated_askers ≡ self.old.negated_askers }
+        ensures held { RowsHeld self.old.held self.old.rules.items self.old.alpha → RowsHeld self.new.held self.new.rules.items self.new.alpha }
     {
         self.passed.clear();
         self.due.clear();
         self.negated_due.clear();
-        self.alpha.file(place, element, &mut self.passed)?;
+        let filed = self.alpha.file(place, element, &mut self.passed);
+        self.held = self.held.saturating_add(self.passed.len());
+        filed?;
         collect(
             self.askers.as_slice(),
             self.passed.as_slice(),

@@ -11,9 +11,11 @@ use Rattle.match_network.proofs.network.Network.add.Goals as goal
 
 pub invariant_of-self-in-Err : goal.invariant_of-self-in-Err
 invariant_of-self-in-Err g c =
-    let set = c.take_in.new.self in
-    network_undone c.self.inside.arrivals c.insert.new.self c.remove.new.self (element_in c.args.element) c.in_ok-place.place set.alpha set.rules.items set.askers.items set.negated_askers.items
-    c.in_ok-place.ensures.ok c.in_ok-place.ensures.place c.in_ok-place.ensures.tags c.remove.ensures.left c.in-Err.ensures.err
+    let set = c.take_in.new.self in (
+      network_undone c.self.inside.arrivals c.insert.new.self c.remove.new.self (element_in c.args.element) c.in_ok-place.place set.alpha set.rules.items set.askers.items set.negated_askers.items
+          c.in_ok-place.ensures.ok c.in_ok-place.ensures.place c.in_ok-place.ensures.tags c.remove.ensures.left c.in-Err.ensures.err,
+      c.take_in.ensures.held c.self.invariant.1,
+    )
 
 pub returns-in-Err-clause-err : goal.returns-in-Err-clause-err
 returns-in-Err-clause-err g c =

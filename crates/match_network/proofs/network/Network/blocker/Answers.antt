@@ -7,14 +7,18 @@ use Rattle.match_network.specs.Network.{Network}
 use Rattle.match_network.specs.Row.{elements_of}
 use Rattle.match_network.specs.Rules.{RuleRows}
 use Rattle.match_network.proofs.ComeLemmas.{slice_get-here}
+use Rattle.match_network.proofs.HeldLemmas.{cleaned_held}
 use Rattle.match_network.proofs.TellLemmas.{IsNetwork-cleaned, kept_blocks, kept_free, kept_steps}
 use Rattle.match_network.proofs.network.Network.blocker.Goals as goal
 
 pub invariant_of-self : goal.invariant_of-self
 invariant_of-self g c =
     let inside = c.self.inside in
-    IsNetwork-cleaned inside.arrivals.came inside.arrivals.places inside.set.alpha c.blocker.new.alpha inside.set.rules.items inside.set.askers.items inside.set.negated_askers.items
-    c.blocker.ensures.cleaned c.self.invariant
+    (
+      IsNetwork-cleaned inside.arrivals.came inside.arrivals.places inside.set.alpha c.blocker.new.alpha inside.set.rules.items inside.set.askers.items inside.set.negated_askers.items
+          c.blocker.ensures.cleaned c.self.invariant.0,
+      cleaned_held inside.set.held inside.arrivals.places inside.set.rules.items inside.set.alpha c.blocker.new.alpha c.blocker.ensures.cleaned c.self.invariant.1,
+    )
 
 pub returns-clause-blocks : goal.returns-clause-blocks
 returns-clause-blocks g c =

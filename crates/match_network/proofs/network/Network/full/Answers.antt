@@ -20,4 +20,4 @@ returns-clause-exact c =
     let both : Some c.index.result.now ≡ Some kept = sym here ∙ there in
     let same : c.index.result.now ≡ kept = cc in
     c.living.ensures.rows ∙ ap (filter lives) c.in-Some.ensures.some ∙ ap (λ (k : RuleRows). filter lives (rows_of k.levels (length k.levels))) same in
-    network_tells inside.arrivals inside.set.alpha rules inside.set.askers.items inside.set.negated_askers.items inside.set.due.items inside.set.negated_due.items c.args.self.now c.args.number c.living.result c.self.view_is c.self.invariant c.living.ensures.tags c.living.ensures.below told
+    network_tells inside.arrivals inside.set.alpha rules inside.set.askers.items inside.set.negated_askers.items inside.set.due.items inside.set.negated_due.items inside.set.held inside.left c.args.self.now c.args.number c.living.result c.self.view_is c.self.invariant.0 c.living.ensures.tags c.living.ensures.below told
