@@ -1,5 +1,5 @@
 -- Levels, rules and stores while they are packed, and the network that is left.
-use Rattle.std.proofs.Common.{◌≡◌, ◌⊎◌, inl, inr, ℕ, zero, suc, ◌+◌, ◌<◌, ◌≤◌, List, [], ◌∷◌, Bool, drop, filter, length, map, Option, None, Some, refl, ap, subst, sym, ◌∙◌, arith, set, slice_get}
+use Rattle.std.proofs.Common.{◌≡◌, ◌⊎◌, inl, inr, ℕ, zero, suc, true, ◌+◌, ◌<◌, ◌≤◌, List, [], ◌∷◌, Bool, drop, filter, length, map, Option, None, Some, refl, ap, subst, sym, ◌∙◌, arith, set, slice_get}
 use Rattle.std.specs.List.{AllByRecursion}
 use Rattle.std.specs.Option.{option_map, option_map_or}
 use Rattle.std.proofs.lemmas.Bool.{cases_eq, cases_lt}

@@ -16,8 +16,8 @@ ghost use Rattle.match_network.specs.Rules.{AreAsked, AreBare, GoesOn, IsRight, 
 ghost use Rattle.match_network.specs.Tried.{rule_tried};
 ghost use Rattle.match_network.specs.Woven.{woven};
 
-use crate::negated::find_blocker;
 use crate::held::count_rows;
+use crate::negated::find_blocker;
 use crate::packing::pack_levels;
 use crate::{Arrivals, Conditions, Level, Rows, new_levels, weave};
 use alpha_memory::AlphaMemory;

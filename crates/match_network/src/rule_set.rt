@@ -1,6 +1,7 @@
 //! All rules, and the stores that they share.
 
 ghost use Rattle.std.specs.Prelude.{◌≡◌, ◌+◌, ◌≤◌, [], ◌∷◌, ◌++◌, IfOk, OnErr, OnOk, filter, map};
+ghost use Rattle.std.specs.List.{flat_map};
 ghost use Rattle.join_tests.specs.Meaning.{IsCompiled};
 ghost use Rattle.rule_base.specs.Numbers.{has_number};
 ghost use Rattle.rule_base.specs.Views.{element_in};
@@ -9,7 +10,7 @@ ghost use Rattle.match_network.specs.JoinWork.{join_work_of};
 ghost use Rattle.match_network.specs.Held.{RowsHeld};
 ghost use Rattle.match_network.specs.Network.{IsBefore, IsNetwork, joins_in, other_than};
 ghost use Rattle.match_network.specs.Packing.{ArePacked, MayBePacked};
-ghost use Rattle.match_network.specs.Rules.{AreAllDue, AreBare, AreCompiled, IsAdded};
+ghost use Rattle.match_network.specs.Rules.{AreAllDue, askers_at, AreBare, AreCompiled, IsAdded};
 ghost use Rattle.match_network.specs.Touched.{AllGrow, AreNegatedDue, OthersStay};
 
 use crate::askers::{Asker, collect, note_all};
@@ -36,7 +37,6 @@ pub(crate) struct RuleSet {
     /// Those who ask the stores that the last element passed.
     pub(crate) due: Vec<Asker>,
     pub(crate) negated_due: Vec<Asker>,
-    due: Vec<Asker>,
     /// How many rows and links there are, the dead ones and the unlinked ones too.
     pub(crate) held: usize,
 }
@@ -46,7 +46,6 @@ impl RuleSet {
     pub(crate) fn new(alloc: Global, rules: &[Rule]) -> Result<RuleSet, OutOfMemory>
         ensures compiled { IfOk result (λ set. AreCompiled rules.now set.rules.items) }
         ensures right { IfOk result (λ set. IsNetwork [] [] set.alpha set.rules.items set.askers.items set.negated_askers.items) }
-        ensures right { IfOk result (λ set. IsNetwork [] [] set.alpha set.rules.items set.askers.items) }
         ensures held { IfOk result (λ set. RowsHeld set.held set.rules.items set.alpha) }
     {
         let mut set = RuleSet {
@@ -150,6 +149,19 @@ impl RuleSet {
         let filed = self.alpha.file(place, element, &mut self.passed);
         self.held = self.held.saturating_add(self.passed.len());
         filed?;
+        self.collect_due()
+    }
+
+    /// Adds those who ask the stores that were passed.
+    fn collect_due(&mut self) -> Result<(), OutOfMemory>
+        ensures due { OnOk result (self.new.due.items ≡ self.old.due.items ++ flat_map (askers_at self.old.askers.items) self.old.passed.items) }
+        ensures negated_due { OnOk result (self.new.negated_due.items ≡ self.old.negated_due.items ++ flat_map (askers_at self.old.negated_askers.items) self.old.passed.items) }
+        ensures alpha { self.new.alpha ≡ self.old.alpha }
+        ensures rules { self.new.rules ≡ self.old.rules }
+        ensures askers { self.new.askers ≡ self.old.askers }
+        ensures negated_askers { self.new.negated_askers ≡ self.old.negated_askers }
+        ensures held { self.new.held ≡ self.old.held }
+    {
         collect(
             self.askers.as_slice(),
             self.passed.as_slice(),

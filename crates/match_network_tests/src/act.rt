@@ -21,6 +21,10 @@ pub enum Act {
     Both(usize),
     /// `count RULE`: how many full matches there are.
     Count(usize),
+    /// `pack`: what is dead is dropped.
+    Pack,
+    /// `crowded`: whether packing pays.
+    Crowded,
 }
 
 impl Act {
@@ -28,6 +32,8 @@ impl Act {
     pub fn read(alloc: Global, text: &str) -> Result<Option<Act>, OutOfMemory> {
         let words: Vec<&str> = text.split_whitespace().collect(alloc)?;
         match words.as_slice() {
+            ["pack"] => Ok(Some(Act::Pack)),
+            ["crowded"] => Ok(Some(Act::Crowded)),
             [kind, number] if *kind != "a" => Ok(of_number(kind, number)),
             [kind, class, first, last] if *kind == "many" => Ok(many(class, first, last)),
             [kind, class, values @ ..] if *kind == "a" => added(alloc, class, values),

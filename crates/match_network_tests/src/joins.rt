@@ -30,6 +30,19 @@ fn a_thousand_keys_have_a_match_each(rt: HostRuntime) -> Result<(), Fail> {
     Ok(())
 }
 
+/// What lives stays where the dead are dropped, and joins what comes.
+const PACKED: &str = "
+rules (literalize a k)(literalize b k)(p r (a ^k <k>) (b ^k <k>) -->)
+a 0 1; a 0 2; a 1 1; a 1 2; r 1; pack; full 0; both 0; a 1 2; full 0; r 4; pack; pack; a 0 2; full 0; both 0; crowded => 1; 2; 3; 4; -; -; 2.4; same; 5; 2.4 2.5; -; -; -; 6; 2.5 6.5; same; no
+many 0 1 6000; many 1 1 6000; crowded; pack; crowded; r 1; count 0 => 1 to 6000; 1 to 6000; yes; -; no; -; 5999
+";
+
+#[test]
+fn the_dead_are_dropped(rt: HostRuntime) -> Result<(), Fail> {
+    assert_eq!(rt; replayed(rt.alloc(), PACKED)?.as_str(), PACKED);
+    Ok(())
+}
+
 const KEYS: &str = "
 Two attributes are equal to two, and one is.
 rules (literalize a x y)(literalize b x y)(p two (a ^x <v> ^y <w>) (b ^x <v> ^y <w>) -->)(p one (a ^x <v> ^y <w>) (b ^x <v>) -->)

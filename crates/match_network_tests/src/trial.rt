@@ -59,11 +59,26 @@ impl Trial {
                 self.network.remove(tag);
                 Ok(format!(in alloc; "-")?)
             }
+            Act::Pack => {
+                self.network.pack(alloc)?;
+                Ok(format!(in alloc; "-")?)
+            }
+            Act::Crowded => Ok(self.crowded(alloc)?),
             Act::Full(number) => self.full(alloc, number),
             Act::Plain(number) => self.plain(alloc, number),
             Act::Both(number) => self.both(alloc, number),
             Act::Count(number) => self.count(alloc, number),
         }
+    }
+
+    /// Whether packing pays.
+    fn crowded(&self, alloc: Global) -> Result<String, OutOfMemory> {
+        let answer = if self.network.is_crowded() {
+            "yes"
+        } else {
+            "no"
+        };
+        Ok(answer.to_string(alloc)?)
     }
 
     /// The full matches of a rule by the network.

@@ -13,8 +13,7 @@ use Rattle.match_network.proofs.network.Network.blocker.Goals as goal
 
 pub invariant_of-self : goal.invariant_of-self
 invariant_of-self g c =
-    let inside = c.self.inside in
-    (
+    let inside = c.self.inside in (
       IsNetwork-cleaned inside.arrivals.came inside.arrivals.places inside.set.alpha c.blocker.new.alpha inside.set.rules.items inside.set.askers.items inside.set.negated_askers.items
           c.blocker.ensures.cleaned c.self.invariant.0,
       cleaned_held inside.set.held inside.arrivals.places inside.set.rules.items inside.set.alpha c.blocker.new.alpha c.blocker.ensures.cleaned c.self.invariant.1,
