@@ -1,5 +1,5 @@
 -- What a network tells of what stands in the way of a row.
-use Rattle.std.proofs.Common.{◌≡◌, ℕ, ◌+◌, ◌≤◌, List, length, true, IfSome, None, Option, Some, refl, subst, sym, ◌∙◌, slice_get}
+use Rattle.std.proofs.Common.{◌≡◌, ℕ, ◌+◌, ◌≤◌, List, length, Bool, true, IfSome, None, Option, Some, refl, subst, sym, ◌∙◌, slice_get}
 use Rattle.std.specs.List.{AllByRecursion, list_all}
 use Rattle.rule_base.specs.declared.element.Element.{Element}
 use Rattle.rule_base.proofs.EachLemmas.{Each-slice_get, Each-weaker}
@@ -41,6 +41,11 @@ kept_blocks rules rule number this came found there held =
     (λ place all kept row w.
     let same = this_rule rules rule number this kept row there w in
     subst (λ (r : RuleRows). blocks r.joins came row place ≡ true) same (all row (subst (λ (r : RuleRows). slice_get (whole_rows r) number ≡ Some row) (sym same) w.row_is))) found held
+
+pub kept_told : (rules : List RuleRows) (rule number : ℕ) (this : RuleRows) (came : List Element) (place : ℕ) (answer : Bool) → slice_get rules rule ≡ Some this → ((row : List ℕ) → slice_get (whole_rows this) number ≡ Some row → answer ≡ blocks this.joins came row place) → (kept : RuleRows) (row : List ℕ) → IsWholeRow rules rule number kept row → answer ≡ blocks kept.joins came row place
+kept_told rules rule number this came place answer there held kept row w =
+    let same = this_rule rules rule number this kept row there w in
+    subst (λ (r : RuleRows). answer ≡ blocks r.joins came row place) same (held row (subst (λ (r : RuleRows). slice_get (whole_rows r) number ≡ Some row) (sym same) w.row_is))
 
 pub kept_free : (rules : List RuleRows) (rule number : ℕ) (this : RuleRows) (came : List Element) (places : List ℕ) → slice_get rules rule ≡ Some this → ((row : List ℕ) → slice_get (whole_rows this) number ≡ Some row → list_all (is_free (elements_of came places) (elements_of came row)) this.joins.negated ≡ true) → (kept : RuleRows) (row : List ℕ) → IsWholeRow rules rule number kept row → list_all (is_free (elements_of came places) (elements_of came row)) kept.joins.negated ≡ true
 kept_free rules rule number this came places there held kept row w =

@@ -32,5 +32,6 @@ pub mod Network
 pub mod JoinWork
 -- worked examples
 pub mod Examples
--- the full matches of a rule
+-- the full matches of a rule, and of all rules
 pub mod Full
+pub mod Told

@@ -119,3 +119,24 @@ pub(crate) fn find_blocker<L: Ledger>(
     }
     None
 }
+
+/// Whether the element at a place joins a row at a negated condition element.
+fn blocks_at(negated: &Negated, row: &[u32], place: u32, arrivals: &Arrivals) -> bool
+    requires come { HaveCome arrivals.now.came row.now }
+    requires place { place < length arrivals.now.came }
+    ensures { result ≡ blocks_at negated.now arrivals.now.came row.now place }
+{
+    let first = RowView::new(first_places(row, negated.after), arrivals);
+    negated.join.admits(&first, arrivals.at(place))
+}
+
+/// Whether the element at a place stands in the way of a row, at one of these negated condition elements.
+pub(crate) fn blocks(negated: &[Negated], row: &[u32], place: u32, arrivals: &Arrivals) -> bool
+    requires come { HaveCome arrivals.now.came row.now }
+    requires place { place < length arrivals.now.came }
+    ensures { result ≡ list_any (λ (n : Negated). blocks_at n arrivals.now.came row.now place) negated.now }
+{
+    negated
+        .iter()
+        .any(|one| blocks_at(one, row, place, arrivals))
+}

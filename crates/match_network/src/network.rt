@@ -19,6 +19,7 @@ ghost use Rattle.match_network.specs.Rules.{AreCompiled, RuleRows};
 ghost use Rattle.match_network.specs.Touched.{AllGrow, AreNegatedDue, OthersStay};
 ghost use Rattle.match_network.specs.Held.{Covers, all_rows};
 ghost use Rattle.match_network.specs.Packing.{ArePacked, MayBePacked};
+ghost use Rattle.match_network.specs.Told.{AllAreTold};
 
 use crate::rule_set::RuleSet;
 use crate::{Arrivals, Asker, FullRows, RuleLevels};
@@ -124,6 +125,18 @@ impl Network {
         kept.blocker(row, &self.arrivals, &mut self.set.alpha, steps)
     }
 
+    /// Whether the element at a place stands in the way of a row, as `blocker` has it. It looks at each negated
+    /// condition element of the rule once, and needn't be in working memory.
+    pub fn blocks(&self, rule: usize, row: usize, place: u32) -> bool
+        requires rule { rule < length self.now.rules }
+        requires row { (kept : RuleRows) → slice_get self.now.rules rule ≡ Some kept → row < length (whole_rows kept) }
+        requires place { place < length self.now.arrivals.came }
+        ensures { (kept : RuleRows) (those : List ℕ) → IsWholeRow self.now.rules rule row kept those
+            → result ≡ blocks kept.joins self.now.arrivals.came those place }
+    {
+        self.set.rules[rule].blocks(row, place, &self.arrivals)
+    }
+
     /// Takes the element with this tag out of working memory, and tells its place, if it is there. Its rows
     /// stay, as dead ones. It counts no steps and takes no memory, and a time that grows with the logarithm
     /// of the tags that are missing between the first one and this one.
@@ -205,9 +218,10 @@ impl Network {
     pub fn all_are_right(&self)
         ensures right { AreAllRight self.now }
         ensures levels { AllHaveLevels self.now }
+        ensures told { AllAreTold self.now }
     {
-        // What the type keeps is known only where a field is named.
-        let _ = &self.arrivals;
+        // What the types keep is known only where a field is named, and its calls tell.
+        let _came = self.arrivals.len();
     }
 
     /// The place of the element with this tag in working memory, if it is there. It takes as much time as

@@ -17,7 +17,7 @@ ghost use Rattle.match_network.specs.Tried.{rule_tried};
 ghost use Rattle.match_network.specs.Woven.{woven};
 
 use crate::held::count_rows;
-use crate::negated::find_blocker;
+use crate::negated::{blocks, find_blocker};
 use crate::packing::pack_levels;
 use crate::{Arrivals, Conditions, Level, Rows, new_levels, weave};
 use alpha_memory::AlphaMemory;
@@ -149,6 +149,21 @@ impl RuleLevels {
             arrivals,
             alpha,
             steps,
+        )
+    }
+
+    /// Whether the element at a place stands in the way of the whole row with this number.
+    pub(crate) fn blocks(&self, number: usize, place: u32, arrivals: &Arrivals) -> bool
+        requires number { number < length (whole_rows self.now) }
+        requires come { AllByRecursion (HaveCome arrivals.now.came) (whole_rows self.now) }
+        requires place { place < length arrivals.now.came }
+        ensures { (row : List ℕ) → slice_get (whole_rows self.now) number ≡ Some row → result ≡ blocks self.now.joins arrivals.now.came row place }
+    {
+        blocks(
+            self.joins.negated.as_slice(),
+            self.whole_row(number),
+            place,
+            arrivals,
         )
     }
 
