@@ -10,3 +10,9 @@ pub mod RowLemmas
 pub mod PartLemmas
 -- full matches that come to stand
 pub mod OpeningLemmas
+-- the choices that living rows stand for
+pub mod ChoiceLemmas
+-- marks that end
+pub mod RenewingLemmas
+-- what comes of an element that comes
+pub mod AddLemmas

@@ -8,3 +8,9 @@ pub mod Queue
 pub mod Part
 -- what becomes of them as elements come and go
 pub mod Change
+-- the choices that they stand for
+pub mod Choices
+-- how their marks end
+pub mod Marks
+-- and what comes of it
+pub mod Renewing

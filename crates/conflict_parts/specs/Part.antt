@@ -2,6 +2,7 @@
 use Rattle.std.specs.Prelude.{◌≡◌, ℕ, ◌<◌, ◌≤◌, List, [], Bool, true, Option, Some, length, slice_get, slice_index_or}
 use Rattle.std.specs.List.{list_all}
 use Rattle.std.specs.Option.{option_map_or}
+use Rattle.rule_base.specs.declared.base.Refraction.{Refraction}
 use Rattle.rule_base.specs.Numbers.{has_number}
 use Rattle.join_tests.specs.Meaning.{is_free}
 use Rattle.match_network.specs.Negated.{blocks, whole_rows}
@@ -14,10 +15,11 @@ use Rattle.conflict_parts.specs.declared.standing.Standing.TheVariants.{Open, Wa
 use Rattle.conflict_parts.specs.Queue.{has_waiter, is_queued}
 use Rattle.conflict_parts.specs.Standings.{standing_at}
 
--- a network, and how its full matches stand
+-- a network, how its full matches stand, and when a mark ends
 pub record Part : Type 0 where
   pub network : Network
   pub standings : List (List Standing)
+  pub refraction : Refraction
 
 -- the full rows of the rule with a number
 abbrev pub full_rows : List RuleRows → ℕ → List (List ℕ)

@@ -80,7 +80,7 @@ fn is_open(standing: Option<Standing>) -> bool
 }
 
 /// Whether a full match is there, and its elements are in working memory.
-fn lives(network: &Network, id: RowId) -> bool
+pub(crate) fn lives(network: &Network, id: RowId) -> bool
     ensures yes { result ≡ true → (row : List ℕ) × IsLivingRow network.now id.rule id.row row }
     ensures no { result ≡ false → (row : List ℕ) → IsLivingRow network.now id.rule id.row row → ⊥ }
 {

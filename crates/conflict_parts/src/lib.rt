@@ -3,9 +3,11 @@
 #![tactic(auto)]
 
 mod candidates;
+pub mod laws;
 mod opening;
 mod part;
 mod queue;
+mod renewing;
 mod standing;
 mod waiters;
 

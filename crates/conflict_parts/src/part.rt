@@ -1,27 +1,29 @@
 //! The part of a conflict set that one match network gives.
 
-ghost use Rattle.std.specs.Prelude.{◌≡◌, ℕ, ◌<◌, ◌||◌, ◌⊎◌, ◌++◌, ◌∷◌, [], IfOk, IfSome, List, None, OnErr, OnOk, Ok, Some, false, length, slice_index_or};
+ghost use Rattle.std.specs.Prelude.{◌≡◌, ℕ, ◌<◌, ◌&&◌, ◌||◌, ◌⊎◌, ◌++◌, ◌∷◌, [], IfOk, IfSome, List, None, OnErr, OnOk, Ok, Some, false, length, not, slice_index_or, true};
 ghost use Rattle.std.specs.List.{AllByRecursion};
 ghost use Rattle.rule_base.specs.declared.element.Element.{Element};
 ghost use Rattle.rule_base.specs.Views.{element_in};
 ghost use Rattle.match_network.specs.Arrivals.{Arrivals, with_arrival, without_tag};
 ghost use Rattle.match_network.specs.Network.{joins_in};
 ghost use Rattle.match_network.specs.Rules.{AreCompiled};
-ghost use Rattle.match_network.specs.Touched.{AllGrow, OthersStay};
+ghost use Rattle.match_network.specs.Touched.{AllGrow, AreNegatedDue, OthersStay};
 ghost use Rattle.conflict_parts.specs.declared.standing.Standing.TheVariants.{Marked};
 ghost use Rattle.conflict_parts.specs.Change.{HasGrown, NoneWaits};
+ghost use Rattle.conflict_parts.specs.Marks.{ends};
 ghost use Rattle.conflict_parts.specs.Part.{IsCandidate, IsLivingRow, full_row, full_rows, is_free_row};
 ghost use Rattle.conflict_parts.specs.Queue.{IsOpened, same_row};
 ghost use Rattle.conflict_parts.specs.Standings.{is_marked, standing_at};
 
 use crate::candidates::next_free;
-use crate::opening::{open_all, open_due};
+use crate::opening::open_all;
 use crate::queue::wake;
+use crate::renewing::settle;
 use crate::standing::{RowId, Standing, Standings};
 use crate::waiters::Waiters;
 use match_network::Network;
 use ops_text::OutOfMemory;
-use rule_base::{ElementView, Rule, Steps};
+use rule_base::{ElementView, Refraction, Rule, Steps};
 use std::alloc::Global;
 use std::marker::Model;
 use std::sync::ledger::Ledger;
@@ -33,6 +35,7 @@ pub struct Part {
     standings: Standings,
     queue: Vec<RowId>,
     waiters: Waiters,
+    refraction: Refraction,
 }
 
 impl Model for Part {
@@ -40,14 +43,15 @@ impl Model for Part {
 
     ghost Value = { Part };
 
-    ghost view = { λ p. record { network = p.network; standings = p.standings } };
+    ghost view = { λ p. record { network = p.network; standings = p.standings; refraction = p.refraction } };
 
     ghost invariant = { λ p. IsPart p.network p.standings p.queue.items p.waiters };
 }
 
 impl Part {
     /// A part for these rules, by their numbers, without elements.
-    pub fn new(alloc: Global, rules: &[Rule]) -> Result<Part, OutOfMemory>
+    pub fn new(alloc: Global, rules: &[Rule], refraction: Refraction) -> Result<Part, OutOfMemory>
+        ensures refraction { IfOk result (λ part. part.refraction ≡ refraction) }
         ensures came { IfOk result (λ part. part.network.arrivals.came ≡ []) }
         ensures places { IfOk result (λ part. part.network.arrivals.places ≡ []) }
         ensures compiled { IfOk result (λ part. AreCompiled rules.now part.network.rules) }
@@ -62,6 +66,7 @@ impl Part {
             standings,
             queue,
             waiters: Waiters::new(alloc),
+            refraction,
         })
     }
 
@@ -75,6 +80,7 @@ impl Part {
 
         // In every case, also after want of memory.
         ensures network { self.new.network ≡ self.old.network }
+        ensures refraction { self.new.refraction ≡ self.old.refraction }
         ensures marks { (rule row : ℕ) → is_marked self.new.standings rule row ≡ is_marked self.old.standings rule row }
     {
         next_free(
@@ -86,17 +92,18 @@ impl Part {
         )
     }
 
-    /// Marks a full match as fired. A mark stays.
+    /// Marks a full match as fired.
     pub fn mark(&mut self, id: RowId)
         requires { (row : List ℕ) × IsLivingRow self.old.network id.rule id.row row }
         ensures marks { (rule row : ℕ) → is_marked self.new.standings rule row ≡ (is_marked self.old.standings rule row || same_row rule row id) }
         ensures network { self.new.network ≡ self.old.network }
+        ensures refraction { self.new.refraction ≡ self.old.refraction }
     {
         self.standings.set(id, Standing::Marked);
     }
 
-    /// Takes in an element. The full matches that it makes stand open. After want of memory the element
-    /// isn't in working memory.
+    /// Takes in an element. The full matches that it makes stand open; under `Renewed` so do marked ones of
+    /// which it stands in the way. After want of memory the element isn't in working memory.
     pub fn add<L: Ledger>(
         &mut self,
         element: ElementView<'_>,
@@ -107,14 +114,27 @@ impl Part {
         ensures err { OnErr result (self.new.network.arrivals.places ≡ self.old.network.arrivals.places) }
         ensures joins { joins_in self.new.network.rules ≡ joins_in self.old.network.rules }
         ensures grows { AllGrow self.new.network.arrivals.came (length self.old.network.arrivals.came) self.old.network.rules self.new.network.rules }
-        ensures marks { (rule row : ℕ) → is_marked self.new.standings rule row ≡ is_marked self.old.standings rule row }
+        ensures refraction { self.new.refraction ≡ self.old.refraction }
+
+        // The marks of what lives, and after want of memory all of them.
+        ensures marks { OnOk result ((rule number : ℕ) (row : List ℕ) → IsLivingRow self.new.network rule number row
+            → is_marked self.new.standings rule number ≡ (is_marked self.old.standings rule number && not (ends self.new.refraction self.new.network rule row (length self.old.network.arrivals.came)))) }
+        ensures marks_stay { OnErr result ((rule number : ℕ) → is_marked self.new.standings rule number ≡ is_marked self.old.standings rule number) }
 
         // After want of memory the element may have come, and be dead.
         ensures came { OnErr result ((self.new.network.arrivals.came ≡ self.old.network.arrivals.came)
             ⊎ (self.new.network.arrivals.came ≡ self.old.network.arrivals.came ++ element_in element.entry ∷ [])) }
     {
+        let place = self.network.arrivals().len() as u32;
         take_in(&mut self.network, element, steps)?;
-        if let Err(want) = open_due(&self.network, &mut self.standings, &mut self.queue) {
+        let settled = settle(
+            self.refraction,
+            &self.network,
+            place,
+            &mut self.standings,
+            &mut self.queue,
+        );
+        if let Err(want) = settled {
             self.network.remove(element.tag);
             return Err(want);
         }
@@ -127,6 +147,7 @@ impl Part {
         ensures ok { OnOk result (self.new.network.arrivals ≡ without_tag self.old.network.arrivals tag) }
         ensures rules { self.new.network.rules ≡ self.old.network.rules }
         ensures err { OnErr result (self.new.network ≡ self.old.network) }
+        ensures refraction { self.new.refraction ≡ self.old.refraction }
         ensures marks { (rule row : ℕ) → is_marked self.new.standings rule row ≡ is_marked self.old.standings rule row }
     {
         wake_all(
@@ -140,9 +161,10 @@ impl Part {
         Ok(())
     }
 
-    /// The network.
+    /// The network. Only what is there is marked.
     pub fn network(&self) -> &Network
-        ensures { result.now ≡ self.now.network }
+        ensures network { result.now ≡ self.now.network }
+        ensures marks { (rule row : ℕ) → is_marked self.now.standings rule row ≡ true → row < length (full_rows self.now.network.rules rule) }
     {
         &self.network
     }
@@ -181,6 +203,7 @@ fn take_in<L: Ledger>(
     ensures came { OnErr result ((network.new.arrivals.came ≡ network.old.arrivals.came)
         ⊎ (network.new.arrivals.came ≡ network.old.arrivals.came ++ element_in element.entry ∷ [])) }
     ensures grown { HasGrown network.old network.new (element_in element.entry) }
+    ensures negated_due { OnOk result (AreNegatedDue (element_in element.entry) network.new.rules network.new.negated_due) }
     ensures undone { OnOk result ((left : Arrivals) → left ≡ without_tag network.new.arrivals element.entry.tag → left.places ≡ network.old.arrivals.places) }
 {
     // What these tell is known of the network before, and then of the one after.

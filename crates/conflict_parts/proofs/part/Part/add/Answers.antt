@@ -1,4 +1,4 @@
--- What an element makes comes to stand, or it is taken out again.
+-- What an element makes comes to stand, and marks end, or it is taken out again.
 use Rattle.std.proofs.Common.{List, ap, length, refl, subst, sym, ◌∙◌}
 use Rattle.rule_base.specs.Views.{element_in}
 use Rattle.match_network.specs.Arrivals.{Arrivals}
@@ -6,6 +6,7 @@ use Rattle.match_network.specs.Rules.{RuleRows}
 use Rattle.match_network.specs.Touched.{AllGrow}
 use Rattle.rule_base.specs.declared.element.Element.{Element}
 use Rattle.conflict_parts.specs.Part.{Part}
+use Rattle.conflict_parts.proofs.AddLemmas.{due_from, part_renewed}
 use Rattle.conflict_parts.proofs.PartLemmas.{due_or_same, no_more-longer, part_grown, part_undone}
 use Rattle.conflict_parts.proofs.QueueLemmas.{opened_none}
 use Rattle.conflict_parts.proofs.part.Part.add.Goals as goal
@@ -24,13 +25,19 @@ returns-in_err-take_in-clause-grows g c =
     let new = c.take_in.new.network in
     subst (λ (p : Part). AllGrow new.arrivals.came (length p.network.arrivals.came) p.network.rules new.rules) c.self.view_is c.in_err-take_in.ensures.grows
 
+pub settle-settled-requires-clause-due : goal.settle-settled-requires-clause-due
+settle-settled-requires-clause-due g c =
+    let told = c.in_ok-take_in.ensures in
+    due_from c.take_in.new.network c.self.inside.network.arrivals (element_in c.args.element) c.len-place.result told.ok
+    (c.len-place.ensures.value ∙ ap (λ (a : Arrivals). length a.came) c.arrivals.ensures) told.negated_due
+
 pub invariant_of-self-in-Err : goal.invariant_of-self-in-Err
 invariant_of-self-in-Err g c =
     let inside = c.self.inside in
     let new = c.take_in.new.network in
     let told = c.in_ok-take_in.ensures in
-    let opened = c.open_due.ensures.opened in
-    part_undone inside.network new c.remove.new.self (element_in c.args.element) inside.standings c.open_due.new.standings inside.queue.items c.open_due.new.queue.items inside.waiters told.grown
+    let opened = c.in-Err.ensures.err in
+    part_undone inside.network new c.remove.new.self (element_in c.args.element) inside.standings c.settle-settled.new.standings inside.queue.items c.settle-settled.new.queue.items inside.waiters told.grown
     c.remove.ensures.rules (ap (λ (a : Arrivals). a.came) c.remove.ensures.arrivals) (told.undone c.remove.new.self.arrivals c.remove.ensures.arrivals) c.self.invariant opened.opened opened.no_more
 
 pub returns-in-Err-clause-err : goal.returns-in-Err-clause-err
@@ -50,10 +57,11 @@ invariant_of-self-in_default g c =
     let inside = c.self.inside in
     let new = c.take_in.new.network in
     let told = c.in_ok-take_in.ensures in
-    let opened = c.in_default.ensures.opened in
-    part_grown inside.network new (element_in c.args.element) inside.standings c.open_due.new.standings inside.queue.items c.open_due.new.queue.items inside.waiters told.grown
-    (ap (λ (a : Arrivals). a.places) told.ok) c.self.invariant opened.opened opened.no_more
-    (due_or_same new.due inside.network.rules new.rules c.open_due.new.standings told.touched c.in_default.ensures.all)
+    let settled = c.in_default.ensures.ok in
+    part_renewed inside.refraction new c.len-place.result settled.standings c.settle-settled.new.standings settled.among c.settle-settled.new.queue.items inside.waiters
+    (part_grown inside.network new (element_in c.args.element) inside.standings settled.standings inside.queue.items settled.among inside.waiters told.grown
+    (ap (λ (a : Arrivals). a.places) told.ok) c.self.invariant settled.opened.opened settled.opened.no_more
+    (due_or_same new.due inside.network.rules new.rules settled.standings told.touched settled.all)) settled.renewed
 
 pub returns-clause-grows : goal.returns-clause-grows
 returns-clause-grows g c =
