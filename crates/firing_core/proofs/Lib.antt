@@ -1,5 +1,4 @@
 -- the match
-pub mod ListLemmas
 pub mod TagLemmas
 pub mod StoreLemmas
 pub mod StoredLemmas
@@ -10,8 +9,6 @@ pub mod LivingLemmas
 pub mod KeyLemmas
 pub mod GroupedLemmas
 pub mod BornLemmas
-pub mod FilterLemmas
-pub mod UnfiredLemmas
 pub mod FiredChoiceLemmas
 -- the firing
 pub mod FiringLemmas

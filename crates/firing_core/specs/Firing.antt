@@ -1,5 +1,5 @@
 -- Firings: which choice may come next, and how a firing changes a core.
-use Rattle.std.specs.Prelude.{◌≡◌, ℕ, true, false, Option, None, Some, Result, Err}
+use Rattle.std.specs.Prelude.{◌≡◌, ℕ, true, false, Option, Some, Result, Err}
 use Rattle.rule_base.specs.declared.instantiation.Choice.{Choice}
 use Rattle.rule_base.specs.declared.entry.FaultCause.{FaultCause}
 use Rattle.rule_base.specs.Effect.{Effect, Failure}
@@ -15,11 +15,6 @@ pub record IsLeft (k : CoreState) (c : Choice) : Type 0 where
   pub matching : matches k.program k.state.memory c ≡ true
   pub unfired : IsUnfired k.state c
   pub not_quiet : is_quiet k.program k.state ≡ false
-
--- a choice that is left, or none where the run is quiet
-abbrev pub IsNext : CoreState → Option Choice → Type 0
-IsNext k None = is_quiet k.program k.state ≡ true
-IsNext k (Some c) = IsLeft k c
 
 -- the choice has fired: the state is one step further, and all else stays
 pub record Fires (old new : CoreState) (c : Choice) : Type 0 where

@@ -18,7 +18,6 @@ pub mod Matching
 pub mod Unfired
 pub mod FiredChoices
 pub mod Firing
-pub mod Turn
 pub mod Kept
 pub mod CoreFields
 pub mod GrantFields

@@ -1,5 +1,5 @@
--- Which choices are fired, told by their last firing, and the first of a list that isn't.
-use Rattle.std.specs.Prelude.{List, Bool, false, not, Option, find}
+-- Which choices are fired, told by their last firing.
+use Rattle.std.specs.Prelude.{List, Bool, false}
 use Rattle.std.specs.Option.{option_map_or}
 use Rattle.rule_base.specs.declared.base.Base.{Base}
 use Rattle.rule_base.specs.declared.entry.Entry.{Entry}
@@ -13,11 +13,3 @@ use Rattle.refraction_index.specs.StillFired.{is_still_fired}
 abbrev pub is_fired_by : Program → Base → Memory → List Entry → Choice → Bool
 is_fired_by program base memory entries c =
     option_map_or (is_still_fired base.refraction program memory entries c) (fired_at base.fired entries c) false
-
--- whether the choice is not fired, by a test that says which ones are
-abbrev pub is_unfired_in : (Choice → Bool) → Choice → Bool
-is_unfired_in fired c = not (fired c)
-
--- the first of these choices that has not fired, or none where each has
-abbrev pub first_unfired : (Choice → Bool) → List Choice → Option Choice
-first_unfired fired choices = find (is_unfired_in fired) choices

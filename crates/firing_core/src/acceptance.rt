@@ -4,12 +4,10 @@ ghost use Rattle.std.specs.Prelude.{◌≡◌, Some, None, length};
 ghost use Rattle.std.specs.Bool.{OnTrue, OnFalse};
 ghost use Rattle.rule_base.specs.Acceptance.{accepts};
 ghost use Rattle.rule_base.specs.Views.{element_in};
-ghost use Rattle.rule_base.specs.Match.{accepts_some};
 ghost use Rattle.element_tests.specs.Asking.{MayAsk};
-ghost use Rattle.firing_core.specs.Matching.{MayFilter};
 
-use element_tests::{Binds, unbind};
-use rule_base::{Cond, ElementView, Elements, Steps};
+use element_tests::Binds;
+use rule_base::{Cond, ElementView, Steps};
 use std::marker::Brand;
 use std::sync::ledger::{Blank, Ledger};
 
@@ -47,19 +45,4 @@ fn accepts_on<L: Ledger>(
 {
     let mut steps = Steps::<L>::new(blank);
     element_tests::accepts(cond, binds, element, &mut steps)
-}
-
-/// Whether the condition element accepts some element of the memory. The row is as before.
-pub fn accepts_some(cond: &Cond, memory: &Elements, binds: &mut Binds) -> bool
-    requires { MayFilter cond.now memory.now binds.old }
-    ensures found { result ≡ accepts_some cond.now binds.old memory.now }
-    ensures kept { binds.new ≡ binds.old }
-{
-    for at in 0..memory.len() {
-        if accepts(cond, binds, memory.at(at)) {
-            unbind(cond, binds);
-            return true;
-        }
-    }
-    false
 }

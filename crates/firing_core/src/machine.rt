@@ -1,7 +1,7 @@
 //! The core: a program, the base that a run begins from, how far the run has come, and the claims that
 //! stand.
 
-ghost use Rattle.std.specs.Prelude.{◌≡◌, ◌+◌, ◌*◌, ◌<◌, ◌≤◌, ◌↔◌, [], true, None, Ok, Err, Some, IfErr, IfOk, IsTrue, OnOk, OnErr, drop, is_ok, is_some, length};
+ghost use Rattle.std.specs.Prelude.{◌≡◌, ◌+◌, ◌*◌, ◌<◌, ◌≤◌, ◌↔◌, [], true, None, Ok, Err, Some, IfErr, IfOk, IsTrue, OnOk, OnErr, drop, is_ok, is_some, length, option_map};
 ghost use Rattle.commit_journal.specs.Entries.{born_in};
 ghost use Rattle.std.specs.Option.{option_copied};
 ghost use Rattle.std.specs.Result.{result_err};
@@ -10,6 +10,8 @@ ghost use Rattle.rule_base.specs.State.{count, start};
 ghost use Rattle.rule_base.specs.Step.{effect_of, may_fire, matches};
 ghost use Rattle.rule_base.specs.Base.{IsLawfulBase};
 ghost use Rattle.rule_base.specs.Ending.{IsBudget};
+ghost use Rattle.rule_base.specs.Memory.{element_at};
+ghost use Rattle.rule_base.specs.Views.{element_in};
 ghost use Rattle.rule_base.specs.Fits.{Fits};
 ghost use Rattle.interference.specs.Footprint.{footprint};
 ghost use Rattle.firing_core.specs.CoreState.{IsRunOf, ended, looked};
@@ -23,7 +25,7 @@ ghost use Rattle.firing_core.specs.declared.claims.Event.TheVariants as event;
 ghost use Rattle.firing_core.specs.Answers.{TellsWhy, after_ending, claim_of, commit_refusal, is_granted, turned_away};
 ghost use Rattle.firing_core.specs.Clear.{IsClear, IsNotBusy};
 ghost use Rattle.firing_core.specs.Events.{apply, with_claim, without_claim, without_claims};
-ghost use Rattle.firing_core.specs.Firing.{IsNext, Fires, TellsFault};
+ghost use Rattle.firing_core.specs.Firing.{Fires, TellsFault};
 
 use crate::claims::{ClaimRefusal, CommitRefusal, FaultSeen, Foreign, How};
 use crate::failing::failing_condition;
@@ -32,7 +34,6 @@ use crate::fired_choices::all_fired;
 use crate::gone::gone_tag;
 use crate::grant::Grant;
 use crate::grouped::Grouped;
-use crate::instantiations::first_unfired;
 use crate::same::same_elements;
 use crate::store::Store;
 use crate::workbench::Workbench;
@@ -43,7 +44,8 @@ use ops_text::{OutOfMemory, Sequence};
 use refraction_index::RefractionIndex;
 use rhs_actions::{Delta, Effect, EffectRefusal, Failed, fire_into};
 use rule_base::{
-    Base, Busy, Candidate, Choice, Elements, FaultCause, Mode, Program, Refraction, Steps,
+    Base, Busy, Candidate, Choice, ElementView, Elements, FaultCause, Mode, Program, Refraction,
+    Steps,
 };
 use standing_claims::{Claim, Standing};
 use std::alloc::Global;
@@ -157,6 +159,14 @@ impl Core {
         let mut elements = Elements::new(alloc);
         self.store.add_to(&mut elements)?;
         Ok(elements)
+    }
+
+    /// The element of the working memory with this tag, if there is one. One that was made is found at
+    /// once, and one of the base by halving.
+    pub fn element(&self, tag: u64) -> Option<ElementView<'_>>
+        ensures { option_map element_in result ≡ element_at self.now.state.memory tag }
+    {
+        self.store.element(tag)
     }
 
     /// The journal: an entry for each firing, in order.
@@ -622,36 +632,8 @@ impl Core {
         self.store.into_journal()
     }
 
-    /// The first choice of the conflict set that has not fired, or none where all have. It matches
-    /// one rule after another anew against the whole memory, of which it lays a copy on the bench, up to the
-    /// first that has one; and it has the index take in the journal.
-    pub(crate) fn find_unfired(
-        &mut self,
-        alloc: Global,
-        bench: &mut Workbench,
-    ) -> Result<Option<Choice>, OutOfMemory>
-        ensures found { IfOk result (IsNext self.old) }
-        ensures same { self.new ≡ self.old }
-    {
-        self.index.take_in(alloc, self.store.journal())?;
-        bench.memory.clear();
-        self.store.add_to(&mut bench.memory)?;
-        first_unfired(
-            alloc,
-            &self.program,
-            &bench.memory,
-            &self.store,
-            &mut self.index,
-            &mut bench.binds,
-        )
-    }
-
-    /// Evaluates the right-hand side of a choice that matches.
-    pub(crate) fn evaluate(
-        &self,
-        choice: &Choice,
-        bench: &mut Workbench,
-    ) -> Result<(), EffectRefusal>
+    /// Evaluates the right-hand side of a choice that matches. Its effect then lies on the bench.
+    pub fn evaluate(&self, choice: &Choice, bench: &mut Workbench) -> Result<(), EffectRefusal>
         requires { matches self.now.program self.now.state.memory choice.now ≡ true }
         ensures ok { OnOk result
             (effect_of self.now.program self.now.state.memory choice.now ≡ Some (Ok bench.new.effect)) }
@@ -667,7 +649,7 @@ impl Core {
     /// entry in the journal, which counts from 0. The caller knows that no claim stands and that the choice
     /// may fire, so nothing is matched again and no lock is taken. It takes memory only where the journal or
     /// the working memory has to grow, and after want of it all is as before.
-    pub(crate) fn fire<L: Ledger>(
+    pub fn fire<L: Ledger>(
         &mut self,
         choice: &Choice,
         effect: &Effect,

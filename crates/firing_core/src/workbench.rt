@@ -1,5 +1,4 @@
-//! Room for one firing after another: the working memory, the elements that matched, the row of bindings and
-//! the effect.
+//! Room for one firing after another: the elements that matched, the row of bindings and the effect.
 
 ghost use Rattle.std.specs.Prelude.{◌≡◌, ◌++◌, OnOk};
 ghost use Rattle.rule_base.specs.Memory.{elements_at};
@@ -12,11 +11,10 @@ use rhs_actions::Effect;
 use rule_base::Elements;
 use std::alloc::Global;
 
-/// What a firing is found and evaluated with. It is filled anew for each, and takes memory only where
+/// What a firing is evaluated with. It is filled anew for each, and takes memory only where
 /// it has never held so much.
 #[derive(Drop)]
 pub struct Workbench {
-    pub memory: Elements,
     pub elements: Elements,
     pub binds: Binds,
     pub effect: Effect,
@@ -25,7 +23,6 @@ pub struct Workbench {
 impl Workbench {
     pub fn new(alloc: Global) -> Result<Workbench, OutOfMemory> {
         Ok(Workbench {
-            memory: Elements::new(alloc),
             elements: Elements::new(alloc),
             binds: Binds::new(alloc, 0)?,
             effect: Effect::new(alloc),

@@ -11,7 +11,8 @@ ghost use Rattle.rule_base.specs.Sound.{IsSound, sizes_of};
 
 use crate::setting::{opening_of, program_of};
 use commit_journal::Journal;
-use firing_core::{Core, Finished, finish, run_alone};
+use firing_core::Core;
+use firing_workers::{Finished, finish, run_alone};
 use ops_text::{OutOfMemory, Sequence};
 use rule_base::{Base, Choice, Elements, Program, Refraction};
 use std::alloc::Global;

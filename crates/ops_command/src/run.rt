@@ -10,7 +10,7 @@ ghost use Rattle.ops_command.specs.Ran.{Ran, start_of};
 use crate::plan::Plan;
 use crate::run_report::run_report;
 use crate::status::{Report, Status};
-use firing_core::{Finished, run_alone};
+use firing_workers::{Finished, run_alone};
 use ops_text::{OutOfMemory, Symbols};
 use rule_base::{Base, Elements, Program, Refraction};
 use std::alloc::Global;

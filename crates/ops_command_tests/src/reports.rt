@@ -145,10 +145,10 @@ fn a_report_tells_choices_memory_and_next_tag(rt: HostRuntime) -> Result<(), Fai
             "(literalize a x)(make a ^x 1)(p hi (a) --> (write hello))",
             "0[1] | 1:0[Int(1)] | 2",
         ),
-        // each instantiation fires once
+        // each instantiation fires once, the younger one first
         (
             "(literalize a x)(literalize b x)(make a ^x 7)(make a ^x 8)(make b ^x 8)(p r (a ^x <v>) --> (remove 1))",
-            "0[1] 0[2] | 3:1[Int(8)] | 4",
+            "0[2] 0[1] | 3:1[Int(8)] | 4",
         ),
         // two condition elements ask for one value, and one element matches two condition elements
         (
@@ -171,7 +171,7 @@ fn a_report_tells_choices_memory_and_next_tag(rt: HostRuntime) -> Result<(), Fai
         ),
         (
             "(literalize a x)(literalize b x)(make a ^x 7)(make a ^x 7)(p r (a ^x <v>) -(b ^x <v>) --> (make b ^x <v>))",
-            "0[1] | 1:0[Int(7)] 2:0[Int(7)] 3:1[Int(7)] | 4",
+            "0[2] | 1:0[Int(7)] 2:0[Int(7)] 3:1[Int(7)] | 4",
         ),
         // a refused program leaves nothing
         ("(make a)", "| | 1"),
